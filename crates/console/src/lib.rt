@@ -1,0 +1,6 @@
+//! What the program prints: every byte of it is made here, from the bytes of the market file.
+
+mod count_text;
+mod fault_text;
+mod put;
+pub mod reply;

@@ -1,0 +1,71 @@
+// The kinds of lines: the first letter of a line decides its kind.
+ghost use mathlib.Core.Path.{_≡_};
+ghost use Rattle.market_file.specs.Kinds.{kindOf, letterOf};
+
+/// The kinds of lines, in the order in which a file has them.
+#[derive(Clone, Copy, Debug, PartialEq, Eq)]
+pub enum Kind {
+    /// `M`: how many agents and places there are.
+    Market,
+    /// `C`: how many lines each section has.
+    Contents,
+    /// `S`: a place and its capacity.
+    Seats,
+    /// `Q`: the one order of all agents.
+    Queue,
+    /// `P`: a place and its order of all agents.
+    Priorities,
+    /// `H`: a node of a place's inheritance tree.
+    Heir,
+    /// `T`: a place and its tenant.
+    Tenant,
+    /// `R`: an agent and its ranking.
+    Ranking,
+}
+
+impl Kind {
+    /// All kinds, in that order.
+    pub const ALL: [Kind; 8] = [
+        Kind::Market,
+        Kind::Contents,
+        Kind::Seats,
+        Kind::Queue,
+        Kind::Priorities,
+        Kind::Heir,
+        Kind::Tenant,
+        Kind::Ranking,
+    ];
+
+    /// The kind that a letter stands for, if it stands for one.
+    pub fn of(letter: char) -> Option<Kind>
+        ensures { λ r. ⌜ r ≡ kindOf letter ⌝ }
+    {
+        match letter {
+            'M' => Some(Kind::Market),
+            'C' => Some(Kind::Contents),
+            'S' => Some(Kind::Seats),
+            'Q' => Some(Kind::Queue),
+            'P' => Some(Kind::Priorities),
+            'H' => Some(Kind::Heir),
+            'T' => Some(Kind::Tenant),
+            'R' => Some(Kind::Ranking),
+            _ => None,
+        }
+    }
+
+    /// The letter that stands for the kind.
+    pub fn letter(self) -> u8
+        ensures { λ r. ⌜ r ≡ letterOf self ⌝ }
+    {
+        match self {
+            Kind::Market => b'M',
+            Kind::Contents => b'C',
+            Kind::Seats => b'S',
+            Kind::Queue => b'Q',
+            Kind::Priorities => b'P',
+            Kind::Heir => b'H',
+            Kind::Tenant => b'T',
+            Kind::Ranking => b'R',
+        }
+    }
+}

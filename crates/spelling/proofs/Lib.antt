@@ -1,0 +1,6 @@
+pub mod Cutting
+pub mod Filing
+pub mod Numbers
+pub mod Rejoining
+pub mod Sentences
+pub mod Spelling
