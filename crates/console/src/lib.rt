@@ -4,3 +4,5 @@ mod count_text;
 mod fault_text;
 mod put;
 pub mod reply;
+#[cfg(test)]
+mod tests;

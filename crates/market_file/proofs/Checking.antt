@@ -138,6 +138,7 @@ checks file r e =
           fault = λ _ at f. is ∙ ap (λ ls. checked 0 (map lineRead ls)) (f .parts) ∙ fault-from 0 (f .before) (f .line) (f .after) at (f .spelled) (omega (arith, f .number)) (f .fault);
           outside = λ no. absurd (no s);
         }
+
     outside : sized file ≡ false → Checks file r
     outside no′ =
         let is : r ≡ Err Size = e ∙ ap (λ t. cond t (checked 0 (map lineRead (lines file))) (Err Size)) no′ in

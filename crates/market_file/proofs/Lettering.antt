@@ -103,8 +103,8 @@ pub line-by-grammar : (text : List ℕ) (r : Result Read LineFault) → r ≡ li
 line-by-grammar text r e = record {
   sound = λ l h. letter-or-fault text _
       (λ t.
-        let w = worded-ok (t .kind) text (wordsRead (t .rest)) l (sym (line-from text (t .kind) (t .rest) (t .is)) ∙ sym e ∙ h) in
-        subst (λ x. (x .text ≡ text) × Spelled-line text (x .kind) (x .numbers)) (sym (w .2)) (refl, (t .rest, t .is, reads-by-grammar (t .rest) (wordsRead (t .rest)) refl .sound (w .0) (w .1))))
+      let w = worded-ok (t .kind) text (wordsRead (t .rest)) l (sym (line-from text (t .kind) (t .rest) (t .is)) ∙ sym e ∙ h) in
+      subst (λ x. (x .text ≡ text) × Spelled-line text (x .kind) (x .numbers)) (sym (w .2)) (refl, (t .rest, t .is, reads-by-grammar (t .rest) (wordsRead (t .rest)) refl .sound (w .0) (w .1))))
       (λ f. let both : _≡_ {A = Result Read LineFault} (Err (InWord Letter)) (Ok l) = sym f ∙ sym e ∙ h in let z : _≡_ {A = ℕ} 0 1 = cc in absurd (omega arith));
   complete = λ k ns s. e ∙ line-from text k (s .0) (s .1) ∙ ap (worded k text) (reads-by-grammar (s .0) (wordsRead (s .0)) refl .complete ns (s .2));
   letter = λ h k rest is. not-letter k text rest (wordsRead rest) refl (sym (line-from text k rest is) ∙ sym e ∙ h);

@@ -56,7 +56,7 @@ pub impl From<At> for MarketFault as MarketFaultFromAt {
 
 impl LineFault {
     /// The number of the fault.
-    pub fn cause(self) -> u8
+    pub(crate) fn cause(self) -> u8
         ensures { λ r. ⌜ r ≡ lineCause self ⌝ }
     {
         match self {
@@ -65,7 +65,7 @@ impl LineFault {
     }
 
     /// The word that the fault names, from 1; 0 where it names none.
-    pub fn word(self) -> usize
+    pub(crate) fn word(self) -> usize
         ensures { λ r. ⌜ r ≡ lineWord self ⌝ }
     {
         match self {
@@ -90,10 +90,12 @@ impl MarketFault {
         ensures { λ r. ⌜ r ≡ layerOf self ⌝ }
     {
         match self {
-            MarketFault::InLine(At {
-                line: _,
-                fault: LineFault::InWord(_),
-            }) => Layer::Word,
+            MarketFault::InLine(
+                At {
+                    line: _,
+                    fault: LineFault::InWord(_),
+                },
+            ) => Layer::Word,
             MarketFault::Size => Layer::Market,
         }
     }

@@ -38,8 +38,8 @@ readings-stray b bs h =
 pub readings-space : (bs : List ℕ) → readings (32 ∷ bs) ≡ spelled (until 32 bs) ∷ readings (since 32 bs)
 readings-space bs =
     ap (λ l. spelled (until 32 bs) ∷ l) (sym (
-      ap (λ l. cond (none l) (map spelled (afters 32 (since 32 bs))) (None ∷ [])) (until-since 32 bs)
-      ∙ ap (map spelled) (afters-since 32 bs)
+    ap (λ l. cond (none l) (map spelled (afters 32 (since 32 bs))) (None ∷ [])) (until-since 32 bs)
+    ∙ ap (map spelled) (afters-since 32 bs)
     ))
 
 -- What is left of a text begins with a stray byte, or with a space and then a word, malformed or not.
@@ -146,6 +146,7 @@ sound text e = at (until 32 text) refl (apart text) e
   where
     ws : List (List ℕ)
     ws = afters 32 text
+
     at : (front : List ℕ) → until 32 text ≡ front → until 32 text ++ spaced (afters 32 text) ≡ text → gap 1 (cond (none front) (map spelled (afters 32 text)) (None ∷ [])) ≡ None → Spelled text (leading (readings text))
     at [] is whole f =
         let here : readings text ≡ map spelled (afters 32 text) = ap (λ l. cond (none l) (map spelled (afters 32 text)) (None ∷ [])) is in

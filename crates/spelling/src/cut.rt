@@ -16,7 +16,7 @@ fn length_before(bytes: &[u8], at: u8) -> usize
 }
 
 /// What stands before the first `at`, and the rest from there on.
-pub fn cut(bytes: &[u8], at: u8) -> (&[u8], &[u8])
+pub(crate) fn cut(bytes: &[u8], at: u8) -> (&[u8], &[u8])
     ensures front { λ r. ⌜ now (r .0) ≡ until at (now (bytes .entry)) ⌝ }
     ensures rest { λ r. ⌜ now (r .1) ≡ since at (now (bytes .entry)) ⌝ }
 {

@@ -1,6 +1,6 @@
 //! How files are spelled: bytes cut into lines, lines into words, words read as numbers.
 
-pub mod cut;
+mod cut;
 pub mod fault;
 pub mod lines;
 pub mod word;

@@ -25,11 +25,11 @@ returns-in-Break-numbered-line c =
     let file = c .args .file .now in
     let at = c .in-Break-numbered-line .field-0 .0 in
     let e : Err (InLine at) ≡ fileChecked file =
-        sym (
-          file-lines file (sized (need.at·returns-in-Break-numbered-line c .After-next))
-          ∙ sym (c .loop-text .inv .0)
-          ∙ turn-fault (c .loop-text .count) _ (c .in-Some .text .now) (lines (c .loop-text .text-iterator .rest .now)) (lines (c .next .last .self .rest .now)) at (c .in-Some .ensures tt .steps) (omega arith) (sym (c .in-Break-numbered-line .ensures tt))
-        )
+    sym (
+    file-lines file (sized (need.at·returns-in-Break-numbered-line c .After-next))
+    ∙ sym (c .loop-text .inv .0)
+    ∙ turn-fault (c .loop-text .count) _ (c .in-Some .text .now) (lines (c .loop-text .text-iterator .rest .now)) (lines (c .next .last .self .rest .now)) at (c .in-Some .ensures tt .steps) (omega arith) (sym (c .in-Break-numbered-line .ensures tt))
+    )
     in
     rw (p .1, p .2) (record { value = e; law = checks file _ e })
 
@@ -37,10 +37,10 @@ pub returns : need.returns
 returns c =
     let file = c .args .file .now in
     let e : Ok (c .loop-text .count) ≡ fileChecked file =
-        sym (
-          file-lines file (sized (need.at·returns c .After-next))
-          ∙ sym (c .loop-text .inv .0)
-          ∙ ap (λ ls. checked (c .loop-text .count) (map lineRead ls)) (c .in-None .ensures tt .steps)
-        )
+    sym (
+    file-lines file (sized (need.at·returns c .After-next))
+    ∙ sym (c .loop-text .inv .0)
+    ∙ ap (λ ls. checked (c .loop-text .count) (map lineRead ls)) (c .in-None .ensures tt .steps)
+    )
     in
     record { value = e; law = checks file _ e }

@@ -15,9 +15,9 @@ pub returns-in-Ok : need.returns-in-Ok
 returns-in-Ok c =
     let market = c .args .market .now in
     let e : vec-items (c .put-summary .last .out) ≡ verdict market =
-        c .put-summary .ensures .items
-        ∙ ap (λ l. l ++ summary market) (c .clear .ensures .items)
-        ∙ ap (verdictOf market) (c .in-Ok .ensures tt .value)
+    c .put-summary .ensures .items
+    ∙ ap (λ l. l ++ summary market) (c .clear .ensures .items)
+    ∙ ap (verdictOf market) (c .in-Ok .ensures tt .value)
     in
     record { text = e; law = tells market _ e }
 
@@ -25,8 +25,8 @@ pub returns-in-Err : need.returns-in-Err
 returns-in-Err c =
     let market = c .args .market .now in
     let e : vec-items (c .put-fault .last .out) ≡ verdict market =
-        c .put-fault .ensures .items
-        ∙ ap (λ l. l ++ verdictOf market (Err (c .in-Err .fault))) (c .clear .ensures .items)
-        ∙ ap (verdictOf market) (c .in-Err .ensures tt .value)
+    c .put-fault .ensures .items
+    ∙ ap (λ l. l ++ verdictOf market (Err (c .in-Err .fault))) (c .clear .ensures .items)
+    ∙ ap (verdictOf market) (c .in-Err .ensures tt .value)
     in
     record { text = e; law = tells market _ e }

@@ -20,7 +20,7 @@ returns-in-Break-words c =
     let p = err-from-errBy (c .from-residual .result) (c .from-residual .ensures .1) in
     let text = c .args .text .now in
     let e : Err (InWord (c .in-Break-words .field-0 .0)) ≡ lineRead text =
-        sym (line-is text (c .in-Some .kind) _ (search needs) (letter (need.at·returns-in-Break-words c .In-Some)) (sym (c .in-Break-words .ensures tt .value)))
+    sym (line-is text (c .in-Some .kind) _ (search needs) (letter (need.at·returns-in-Break-words c .In-Some)) (sym (c .in-Break-words .ensures tt .value)))
     in
     rw (p .1, p .2) (record { value = e; grammar = line-by-grammar text _ e })
 
@@ -28,7 +28,7 @@ pub returns : need.returns
 returns c =
     let text = c .args .text .now in
     let e : Ok (seen (c .new .result)) ≡ lineRead text =
-        ap Ok (c .new .ensures)
-        ∙ sym (line-is text (c .in-Some .kind) _ (search needs) (letter (need.at·returns c .In-Some)) (sym (c .in-Continue-words .ensures tt .value)))
+    ap Ok (c .new .ensures)
+    ∙ sym (line-is text (c .in-Some .kind) _ (search needs) (letter (need.at·returns c .In-Some)) (sym (c .in-Continue-words .ensures tt .value)))
     in
     record { value = e; grammar = line-by-grammar text _ e }

@@ -26,11 +26,11 @@ returns c =
     let after = between 1 (length rest) rest in
     let begins : rest ≡ 32 ∷ after = first-rest rest 0 (search needs) ∙ ap (λ b. b ∷ after) (search needs) in
     let turned : readings rest ≡ c .number .result ∷ readings (c .cut .result .1 .now) =
-        turn-word rest after begins
-        ∙ ap (λ o. o ∷ readings (since 32 after)) (ap spelled (sym (c .cut .ensures .front)) ∙ sym (c .number .ensures .value))
-        ∙ ap (λ l. c .number .result ∷ readings l) (sym (c .cut .ensures .rest))
+    turn-word rest after begins
+    ∙ ap (λ o. o ∷ readings (since 32 after)) (ap spelled (sym (c .cut .ensures .front)) ∙ sym (c .number .ensures .value))
+    ∙ ap (λ l. c .number .result ∷ readings l) (sym (c .cut .ensures .rest))
     in
     let given : Yields (leading (readings rest)) (c .number .result) (leading (readings (c .cut .result .1 .now))) =
-        subst (λ os. Yields (leading os) (c .number .result) (leading (readings (c .cut .result .1 .now)))) (sym turned) (yields-leading (c .number .result) (readings (c .cut .result .1 .now)))
+    subst (λ os. Yields (leading os) (c .number .result) (leading (readings (c .cut .result .1 .now)))) (sym turned) (yields-leading (c .number .result) (readings (c .cut .result .1 .now)))
     in
     record { steps = given; goes = record { on = λ _. fewer (c .number .result) (leading (readings rest)) (leading (readings (c .cut .result .1 .now))) given } }
