@@ -1,27 +1,22 @@
 -- What the program prints of a market file, byte by byte.
-use mathlib.Core.Bool.{cond}
 use mathlib.Core.List.{List, [], _∷_, _++_}
 use Prim.Native.Nat.{ℕ}
 use lib.Chars.{codes}
-use lib.Dec.{eqb}
-use Rattle.std.specs.Joined.{joined}
-use Rattle.std.specs.Written.{decimal}
 use Rattle.std.specs.declared.result.Result.{Result}
 use Rattle.std.specs.declared.result.Result.the-variants.{Ok, Err}
 use Rattle.spelling.specs.Grammar.{spell}
-use Rattle.spelling.specs.Lines.{lines}
-use Rattle.market_file.specs.declared.fault.Layer.{Layer}
-use Rattle.market_file.specs.declared.fault.Layer.the-variants as layer
-use Rattle.market_file.specs.declared.fault.MarketFault.{MarketFault}
-use Rattle.market_file.specs.declared.kind.Kind.{Kind}
-use Rattle.market_file.specs.declared.report.Fault.{Fault}
-use Rattle.market_file.specs.declared.report.Source.{Source}
-use Rattle.market_file.specs.declared.report.Source.the-variants as source
-use Rattle.market_file.specs.Causes.{marketCause, layerOf, faultLine, faultWord}
-use Rattle.market_file.specs.Counts.{linesOf, allKinds}
-use Rattle.market_file.specs.Files.{fileChecked}
-use Rattle.market_file.specs.Kinds.{letterOf}
-use Rattle.market_file.specs.Reports.{faultyLine}
+use Rattle.market_lines.specs.declared.fault.Layer.{Layer}
+use Rattle.market_lines.specs.declared.fault.Layer.the-variants as layer
+use Rattle.market_lines.specs.declared.fault.MarketFault.{MarketFault}
+use Rattle.market_lines.specs.declared.report.Fault.{Fault}
+use Rattle.market_lines.specs.declared.report.Source.{Source}
+use Rattle.market_lines.specs.declared.report.Source.the-variants as source
+use Rattle.market_lines.specs.Causes.{marketCause, layerOf, faultLine, faultWord}
+use Rattle.market_lines.specs.Reports.{faultyLine}
+use Rattle.market_file.specs.declared.form.Form.{Form}
+use Rattle.market_file.specs.declared.form.Sizes.{Sizes}
+use Rattle.market_file.specs.Files.{fileForm}
+use Rattle.market_file.specs.Keeping.{sizesLine}
 
 -- The letter of the file that has a fault: m for the market, s for the session.
 abbrev pub sourceLetter : Source → ℕ
@@ -46,19 +41,15 @@ faultHead f = codes "E " ++ (sourceLetter (f .source) ∷ 32 ∷ (layerName (lay
 abbrev pub faultText : List ℕ → List ℕ → Fault → List ℕ
 faultText market session f = faultHead f ++ (faultyLine market session f ++ 10 ∷ [])
 
--- How many lines there are of a kind: the letter and the count, and nothing where there is none.
-abbrev pub countText : Kind → ℕ → List ℕ
-countText k n = cond (eqb n 0) [] (letterOf k ∷ (spell (n ∷ []) ++ 10 ∷ []))
-
--- What is printed of a file without a fault: a line for each kind of line that occurs.
-abbrev pub summary : List ℕ → List ℕ
-summary market = joined (λ k. countText k (linesOf k (lines market))) allKinds
+-- What is printed of an accepted file: ok, the number of agents and the number of places.
+abbrev pub okText : Sizes → List ℕ
+okText z = codes "ok" ++ (spell (sizesLine z) ++ 10 ∷ [])
 
 -- What is printed of a file that was checked.
-abbrev pub verdictOf : List ℕ → Result ℕ MarketFault → List ℕ
-verdictOf market (Ok n) = summary market
-verdictOf market (Err f) = faultText market [] (record { source = source.Market; fault = f })
+abbrev pub verdictOf : List ℕ → Result Form MarketFault → List ℕ
+verdictOf market (Ok f) = okText (f .sizes)
+verdictOf market (Err e) = faultText market [] (record { source = source.Market; fault = e })
 
 -- What is printed of a market file.
 abbrev pub verdict : List ℕ → List ℕ
-verdict market = verdictOf market (fileChecked market)
+verdict market = verdictOf market (fileForm market)

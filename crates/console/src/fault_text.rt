@@ -4,14 +4,14 @@ ghost use mathlib.Core.Path.{_≡_};
 ghost use Prim.Native.Nat.{_+_, _≤_};
 ghost use lib.ListN.{length};
 ghost use Rattle.std.specs.Of.Vec.{vec-items, vec-len, vec-cap};
-ghost use Rattle.market_file.specs.Reports.{faultyLine};
+ghost use Rattle.market_lines.specs.Reports.{faultyLine};
 ghost use Rattle.console.specs.Printed.{sourceLetter, layerName, faultHead, faultText};
 use crate::put::put;
 use crate::put::put_word;
-use market_file::fault::Layer;
-use market_file::report::Fault;
-use market_file::report::Source;
-use market_file::report::faulty_line;
+use market_lines::fault::Layer;
+use market_lines::report::Fault;
+use market_lines::report::Source;
+use market_lines::report::faulty_line;
 
 /// The letter of the file that has a fault.
 fn source_letter(source: Source) -> u8

@@ -1,4 +1,5 @@
-//! The nouns of a market: agents and places, as two distinct records.
+//! The nouns of a market: agents, places and the nodes of inheritance trees.
 
 pub mod agent;
+pub mod node;
 pub mod place;

@@ -1,3 +1,7 @@
-pub mod Checking
-pub mod Counting
-pub mod Lettering
+pub mod Dues
+pub mod Filing
+pub mod Forming
+pub mod Lawful
+pub mod Limits
+pub mod Sectioning
+pub mod Wrongly

@@ -1,6 +1,6 @@
-pub mod Causes
-pub mod Counts
+pub mod Bounds
+pub mod Contents
 pub mod Files
-pub mod Kinds
-pub mod Records
-pub mod Reports
+pub mod FormedLines
+pub mod Keeping
+pub mod Ledgers

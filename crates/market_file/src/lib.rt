@@ -1,8 +1,9 @@
-//! The market file: its lines as records of their kinds, and the faults that it can have.
+//! The form of a market file: which lines it has, in which order, with how many words and in which ranges.
 
-pub mod count;
-pub mod fault;
+mod bounds;
 pub mod file;
-pub mod kind;
+pub mod form;
+mod head;
+pub mod ledger;
 pub mod line;
-pub mod report;
+mod sections;

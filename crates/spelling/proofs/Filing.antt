@@ -36,7 +36,7 @@ line-steps s r t = Gives (s .rest .now) r (t .rest .now)
 pub road-of : (s : Lines) (bs : List ℕ) → s .rest .now ≡ bs → Road line-steps (λ x. x .now) s (lines bs)
 road-of s bs e =
     subst (λ l. Road line-steps (λ x. x .now) s (lines l)) e
-    (road-from-shown line-steps (λ x. x .now) (λ t. lines (t .rest .now)) (λ s t h. ap length h) (λ s x t h. h) s)
+    (road-from-shown line-steps (λ x. x .now) (λ t. lines (t .rest .now)) (λ s t h. ap length (h .0)) (λ s x t h. h) s)
 
 -- The number counts from 1.
 pub numbered-is : {X : Type 0} (xs : List X) (n k : ℕ) → 1 ≤ n → k ≡ n - 1 → nth xs k ≡ numbered xs n

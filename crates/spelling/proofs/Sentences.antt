@@ -1,18 +1,14 @@
--- The words of a text: reading them from the left, and the grammar's account of them. Assumes nothing.
+-- The leftmost malformed word, and what reading the words of a text means. Assumes nothing.
 use mathlib.Core.Bool.{true, false, cond}
 use mathlib.Core.List.{List, [], _∷_, _++_, map, append-assoc}
-use mathlib.Core.Logic.{_⊎_, inl, inr}
+use mathlib.Core.Logic.{inl, inr}
 use mathlib.Core.Path.{_≡_, refl, sym, ap, subst, _∙_}
-use native.Mathlib.Numerals.{add-one}
 use native.Mathlib.Omega.{arith}
-use Prim.Native.Nat.{ℕ, suc, _+_, _<_, _≤_}
+use Prim.Native.Nat.{ℕ, suc, _+_, _≤_}
 use lib.Dec.{eqb}
 use lib.ListN.{length}
-use Rattle.std.proofs.shelf.Elements.{all-weaker}
-use Rattle.std.proofs.shelf.Tests.{cases-bool, eqb-true, eqb-false, eq-eqb, ne-eqb}
-use Rattle.std.specs.Options.{isSome, Cases}
+use Rattle.std.proofs.shelf.Tests.{cases-bool, eqb-true, eqb-false}
 use Rattle.std.specs.shelf.Lists.{All}
-use Rattle.std.specs.Written.{decimal}
 use Rattle.std.specs.declared.option.Option.{Option}
 use Rattle.std.specs.declared.option.Option.the-variants.{Some, None}
 use Rattle.std.specs.declared.result.Result.{Result}
@@ -20,177 +16,11 @@ use Rattle.std.specs.declared.result.Result.the-variants.{Ok, Err}
 use Rattle.spelling.specs.declared.fault.WordFault.{WordFault}
 use Rattle.spelling.specs.declared.fault.WordFault.the-variants.{Malformed}
 use Rattle.spelling.specs.Cuts.{until, since, afters, none}
-use Rattle.spelling.specs.Grammar.{Digit, Word, Spelled, Ends, Begins-with-word, Leftmost-malformed, Small, spell}
+use Rattle.spelling.specs.Grammar.{Spelled, Ends, Begins-with-word, Leftmost-malformed}
 use Rattle.spelling.specs.Reading.{unless, wordsRead, Reads-by-grammar}
-use Rattle.spelling.specs.Views.{Yields}
-use Rattle.spelling.specs.Words.{spelled, readings, gap, leading, malformed, numbersIn}
-use Rattle.spelling.proofs.Cutting.{until-since, afters-since}
-use Rattle.spelling.proofs.Spelling.{word-from-spelled, spelled-from-word, word-decimal}
-
--- ---- the steps of reading from the left
-
--- Text that does not begin with a space is a malformed word.
-pub readings-stray : (b : ℕ) (bs : List ℕ) → (b ≡ 32 → ⊥) → readings (b ∷ bs) ≡ None ∷ []
-readings-stray b bs h =
-    ap (λ t. cond (none (cond t [] (b ∷ until 32 bs))) (map spelled (cond t (until 32 bs ∷ afters 32 bs) (afters 32 bs))) (None ∷ [])) (ne-eqb b 32 h)
-
--- A space begins a word, which the next space or the end closes.
-pub readings-space : (bs : List ℕ) → readings (32 ∷ bs) ≡ spelled (until 32 bs) ∷ readings (since 32 bs)
-readings-space bs =
-    ap (λ l. spelled (until 32 bs) ∷ l) (sym (
-    ap (λ l. cond (none l) (map spelled (afters 32 (since 32 bs))) (None ∷ [])) (until-since 32 bs)
-    ∙ ap (map spelled) (afters-since 32 bs)
-    ))
-
--- What is left of a text begins with a stray byte, or with a space and then a word, malformed or not.
-pub turn-stray : (rest : List ℕ) (b : ℕ) (after : List ℕ) → rest ≡ b ∷ after → (b ≡ 32 → ⊥) → readings rest ≡ None ∷ []
-turn-stray rest b after is h = ap readings is ∙ readings-stray b after h
-
-pub turn-word : (rest after : List ℕ) → rest ≡ 32 ∷ after → readings rest ≡ spelled (until 32 after) ∷ readings (since 32 after)
-turn-word rest after is = ap readings is ∙ readings-space after
-
-pub gap-here : (k : ℕ) (o : Option ℕ) (os : List (Option ℕ)) → isSome o ≡ false → gap k (o ∷ os) ≡ Some k
-gap-here k None os e = refl
-gap-here k (Some n) os e = let z : _≡_ {A = ℕ} 0 1 = cc in absurd (omega arith)
-
-pub gap-more : (k : ℕ) (o : Option ℕ) (os : List (Option ℕ)) → isSome o ≡ true → gap k (o ∷ os) ≡ gap (k + 1) os
-gap-more k None os e = let z : _≡_ {A = ℕ} 0 1 = cc in absurd (omega arith)
-gap-more k (Some n) os e = ap (λ j. gap j os) (sym (add-one k))
-
--- The first of the numbers, where there is one, and the others.
-pub yields-leading : (o : Option ℕ) (os : List (Option ℕ)) → Yields (leading (o ∷ os)) o (leading os)
-yields-leading None os = refl
-yields-leading (Some n) os = refl
-
-pub fewer : (o : Option ℕ) (ns ms : List ℕ) → Yields ns o ms → Cases o (Unit {0}) (λ _. Unit {0} × Unit {0} × (length ms < length ns))
-fewer None ns ms y = tt
-fewer (Some n) ns ms y = (tt, tt, omega (arith, ap length y))
-
--- ---- texts as words after spaces
-
--- Bytes without a space.
-abbrev Unspaced : List ℕ → Type 0
-Unspaced bs = All (λ b. b ≡ 32 → ⊥) bs
-
--- Words written one after another, each after a space.
-abbrev spaced : List (List ℕ) → List ℕ
-spaced [] = []
-spaced (w ∷ ws) = 32 ∷ (w ++ spaced ws)
-
-spaced-ends : (ws : List (List ℕ)) → Ends (spaced ws)
-spaced-ends [] = tt
-spaced-ends (w ∷ ws) = refl
-
--- A text is what stands before the first space, and then its words.
-apart : (bs : List ℕ) → until 32 bs ++ spaced (afters 32 bs) ≡ bs
-apart [] = refl
-apart (b ∷ bs) =
-    elim (cases-bool (eqb b 32)) [
-      | inl e ↦
-          ap (λ t. cond t [] (b ∷ until 32 bs) ++ spaced (cond t (until 32 bs ∷ afters 32 bs) (afters 32 bs))) e
-          ∙ ap (λ l. 32 ∷ l) (apart bs) ∙ ap (λ c. c ∷ bs) (sym (eqb-true b 32 e))
-      | inr e ↦
-          ap (λ t. cond t [] (b ∷ until 32 bs) ++ spaced (cond t (until 32 bs ∷ afters 32 bs) (afters 32 bs))) e
-          ∙ ap (λ l. b ∷ l) (apart bs)
-    ]
-
-until-unspaced : (bs : List ℕ) → Unspaced (until 32 bs)
-until-unspaced [] = tt
-until-unspaced (b ∷ bs) =
-    elim (cases-bool (eqb b 32)) [
-      | inl e ↦ rw e tt
-      | inr e ↦ rw e (eqb-false b 32 e, until-unspaced bs)
-    ]
-
-afters-unspaced : (bs : List ℕ) → All Unspaced (afters 32 bs)
-afters-unspaced [] = tt
-afters-unspaced (b ∷ bs) =
-    elim (cases-bool (eqb b 32)) [
-      | inl e ↦ rw e (until-unspaced bs, afters-unspaced bs)
-      | inr e ↦ rw e (afters-unspaced bs)
-    ]
-
--- Bytes without a space, where a word ends after them, are all that stands before the first space.
-cut-here : (rest : List ℕ) → Ends rest → (until 32 rest ≡ []) × (since 32 rest ≡ rest)
-cut-here [] e = (refl, refl)
-cut-here (b ∷ bs) e = (
-  ap (λ t. cond t [] (b ∷ until 32 bs)) (eq-eqb b 32 e),
-  ap (λ t. cond t (b ∷ bs) (since 32 bs)) (eq-eqb b 32 e),
-)
-
-cut-after : (w rest : List ℕ) → Unspaced w → Ends rest → (until 32 (w ++ rest) ≡ w) × (since 32 (w ++ rest) ≡ rest)
-cut-after [] rest u e = cut-here rest e
-cut-after (b ∷ w) rest u e =
-    let g = cut-after w rest (u .1) e in (
-      ap (λ t. cond t [] (b ∷ until 32 (w ++ rest))) (ne-eqb b 32 (u .0)) ∙ ap (λ l. b ∷ l) (g .0),
-      ap (λ t. cond t (b ∷ (w ++ rest)) (since 32 (w ++ rest))) (ne-eqb b 32 (u .0)) ∙ g .1,
-    )
-
--- Digits are no spaces.
-unspaced-word : (w : List ℕ) (n : ℕ) → Word w n → Unspaced w
-unspaced-word w n h = all-weaker Digit (λ b. b ≡ 32 → ⊥) (λ b d e. omega arith) w (h .digits)
-
--- ---- from readings to the grammar
-
-sound-words : (k : ℕ) (ws : List (List ℕ)) → gap k (map spelled ws) ≡ None → Spelled (spaced ws) (leading (map spelled ws))
-sound-words k [] e = refl
-sound-words k (w ∷ ws) e = next (spelled w) refl e (sound-words (suc k) ws)
-  where
-    next : (o : Option ℕ) → spelled w ≡ o → gap k (o ∷ map spelled ws) ≡ None → (gap (suc k) (map spelled ws) ≡ None → Spelled (spaced ws) (leading (map spelled ws))) → Spelled (spaced (w ∷ ws)) (leading (o ∷ map spelled ws))
-    next None is f on = let z : _≡_ {A = ℕ} 0 1 = cc in absurd (omega arith)
-    next (Some n) is f on = (w, spaced ws, refl, word-from-spelled w n is, on f)
-
--- A text whose readings have no gap spells them.
-sound : (text : List ℕ) → malformed text ≡ None → Spelled text (numbersIn text)
-sound text e = at (until 32 text) refl (apart text) e
-  where
-    ws : List (List ℕ)
-    ws = afters 32 text
-
-    at : (front : List ℕ) → until 32 text ≡ front → until 32 text ++ spaced (afters 32 text) ≡ text → gap 1 (cond (none front) (map spelled (afters 32 text)) (None ∷ [])) ≡ None → Spelled text (leading (readings text))
-    at [] is whole f =
-        let here : readings text ≡ map spelled (afters 32 text) = ap (λ l. cond (none l) (map spelled (afters 32 text)) (None ∷ [])) is in
-        let same : spaced (afters 32 text) ≡ text = sym (ap (λ l. l ++ spaced (afters 32 text)) is) ∙ whole in
-        subst (λ l. Spelled text (leading l)) (sym here) (subst (λ t. Spelled t (leading (map spelled (afters 32 text)))) same (sound-words 1 (afters 32 text) f))
-    at (b ∷ bs) is whole f = let z : _≡_ {A = ℕ} 0 1 = cc in absurd (omega arith)
-
--- ---- from the grammar to readings
-
-spelled-ends : (text ns : List ℕ) → Spelled text ns → Ends text
-spelled-ends text [] s = subst Ends (sym s) tt
-spelled-ends text (n ∷ ns) s = subst Ends (sym (s .2)) refl
-
--- A text that spells numbers is read as them.
-pub complete : (text ns : List ℕ) → Spelled text ns → readings text ≡ map Some ns
-complete text [] s = ap readings s
-complete text (n ∷ ns) s =
-    let w = s .0 in
-    let rest = s .1 in
-    let g = cut-after w rest (unspaced-word w n (s .3)) (spelled-ends rest ns (s .4)) in
-    ap readings (s .2)
-    ∙ readings-space (w ++ rest)
-    ∙ ap (λ l. spelled l ∷ readings (since 32 (w ++ rest))) (g .0)
-    ∙ ap (λ o. o ∷ readings (since 32 (w ++ rest))) (spelled-from-word w n (s .3))
-    ∙ ap (λ l. Some n ∷ readings l) (g .1)
-    ∙ ap (λ l. Some n ∷ l) (complete rest ns (s .4))
-
-gap-none : (k : ℕ) (ns : List ℕ) → gap k (map Some ns) ≡ None
-gap-none k [] = refl
-gap-none k (n ∷ ns) = gap-none (suc k) ns
-
-leading-all : (ns : List ℕ) → leading (map Some ns) ≡ ns
-leading-all [] = refl
-leading-all (n ∷ ns) = ap (λ l. n ∷ l) (leading-all ns)
-
-reads : (text ns : List ℕ) → Spelled text ns → wordsRead text ≡ Ok ns
-reads text ns s =
-    let c = complete text ns s in
-    ap (λ os. unless (gap 1 os) (leading os)) c ∙ ap (λ o. unless o (leading (map Some ns))) (gap-none 1 ns) ∙ ap Ok (leading-all ns)
-
--- What `spell` writes is spelled.
-pub spell-spelled : (ns : List ℕ) → Small ns → Spelled (spell ns) ns
-spell-spelled [] h = refl
-spell-spelled (n ∷ ns) h = (decimal n, spell ns, refl, word-decimal n (h .0), spell-spelled ns (h .1))
+use Rattle.spelling.specs.Words.{spelled, readings, gap, malformed, numbersIn}
+use Rattle.spelling.proofs.Spelling.{word-from-spelled, spelled-from-word}
+use Rattle.spelling.proofs.Readings.{readings-stray, readings-space, Unspaced, spaced, spaced-ends, apart, afters-unspaced, cut-after, unspaced-word, sound, reads, spell-spelled, complete}
 
 -- ---- the leftmost malformed word
 
@@ -218,6 +48,7 @@ record Gap (j : ℕ) (text : List ℕ) (k : ℕ) : Type 0 where
   spelled : Spelled before numbers
   place : k ≡ j + length numbers
   more : 1 ≤ length rest
+  ends : Ends rest
   broken : Begins-with-word rest → ⊥
 
 gap-words : (j k : ℕ) (ws : List (List ℕ)) → All Unspaced ws → gap j (map spelled ws) ≡ Some k → Gap j (spaced ws) k
@@ -227,7 +58,7 @@ gap-words j k (w ∷ ws) u e = next (spelled w) refl e (gap-words (suc j) k ws (
     next : (o : Option ℕ) → spelled w ≡ o → gap j (o ∷ map spelled ws) ≡ Some k → (gap (suc j) (map spelled ws) ≡ Some k → Gap (suc j) (spaced ws) k) → Gap j (spaced (w ∷ ws)) k
     next None is f on =
         let same : j ≡ k = cc in
-        record { before = []; rest = spaced (w ∷ ws); numbers = []; parts = refl; spelled = refl; place = omega arith; more = omega arith; broken = no-word w (spaced ws) (u .0) (spaced-ends ws) is }
+        record { before = []; rest = spaced (w ∷ ws); numbers = []; parts = refl; spelled = refl; place = omega arith; more = omega arith; ends = refl; broken = no-word w (spaced ws) (u .0) (spaced-ends ws) is }
     next (Some n) is f on =
         let g = on f in
         record {
@@ -238,6 +69,7 @@ gap-words j k (w ∷ ws) u e = next (spelled w) refl e (gap-words (suc j) k ws (
           spelled = (w, g .before, refl, word-from-spelled w n is, g .spelled);
           place = omega (arith, g .place);
           more = g .more;
+          ends = g .ends;
           broken = g .broken;
         }
 
@@ -260,10 +92,67 @@ leftmost text k e = at (until 32 text) refl e
     at [] is f =
         let g = gap-words 1 k (afters 32 text) (afters-unspaced text) f in
         let same : spaced (afters 32 text) ≡ text = sym (ap (λ l. l ++ spaced (afters 32 text)) is) ∙ apart text in
-        record { before = g .before; rest = g .rest; numbers = g .numbers; parts = sym same ∙ g .parts; spelled = g .spelled; place = omega (arith, g .place); more = g .more; broken = g .broken }
+        record { before = g .before; rest = g .rest; numbers = g .numbers; parts = sym same ∙ g .parts; spelled = g .spelled; place = omega (arith, g .place); more = g .more; edge = λ _. g .ends; broken = g .broken }
     at (b ∷ bs) is f =
         let same : 1 ≡ k = cc in
-        record { before = []; rest = text; numbers = []; parts = refl; spelled = refl; place = omega arith; more = some-bytes text b bs is; broken = stray text b bs is }
+        record { before = []; rest = text; numbers = []; parts = refl; spelled = refl; place = omega arith; more = some-bytes text b bs is; edge = λ h. absurd (omega arith); broken = stray text b bs is }
+
+-- The other way round: what the grammar calls the leftmost malformed word is the first gap.
+join-cut : (bs : List ℕ) → until 32 bs ++ since 32 bs ≡ bs
+join-cut [] = refl
+join-cut (b ∷ bs) = elim (eqb b 32) as (λ t. cond t [] (b ∷ until 32 bs) ++ cond t (b ∷ bs) (since 32 bs) ≡ b ∷ bs) [ true ↦ refl | false ↦ ap (λ l. b ∷ l) (join-cut bs) ]
+
+since-ends : (bs : List ℕ) → Ends (since 32 bs)
+since-ends [] = tt
+since-ends (b ∷ bs) =
+    elim (cases-bool (eqb b 32)) [
+      | inl e ↦ rw e (eqb-true b 32 e)
+      | inr e ↦ rw e (since-ends bs)
+    ]
+
+ends-join : (front rest ns : List ℕ) → Spelled front ns → Ends rest → Ends (front ++ rest)
+ends-join front rest [] s e = subst (λ l. Ends (l ++ rest)) (sym s) e
+ends-join front rest (n ∷ ns) s e = subst (λ l. Ends (l ++ rest)) (sym (s .2)) refl
+
+after-words : (front rest ns : List ℕ) → Spelled front ns → (1 ≤ length ns → Ends rest) → readings (front ++ rest) ≡ map Some ns ++ readings rest
+after-words front rest [] s e = ap (λ l. readings (l ++ rest)) s
+after-words front rest (n ∷ ns) s e =
+    let w = s .0 in
+    let more = s .1 in
+    let end : Ends rest = e (omega arith) in
+    let g = cut-after w (more ++ rest) (unspaced-word w n (s .3)) (ends-join more rest ns (s .4) end) in
+    ap (λ l. readings (l ++ rest)) (s .2)
+    ∙ ap (λ l. readings (32 ∷ l)) (append-assoc w more rest)
+    ∙ readings-space (w ++ (more ++ rest))
+    ∙ ap (λ l. spelled l ∷ readings (since 32 (w ++ (more ++ rest)))) (g .0)
+    ∙ ap (λ o. o ∷ readings (since 32 (w ++ (more ++ rest)))) (spelled-from-word w n (s .3))
+    ∙ ap (λ l. Some n ∷ readings l) (g .1)
+    ∙ ap (λ l. Some n ∷ l) (after-words more rest ns (s .4) (λ _. end))
+
+none-first : (rest : List ℕ) → 1 ≤ length rest → (Begins-with-word rest → ⊥) → (os : List (Option ℕ)) × (readings rest ≡ None ∷ os)
+none-first [] h broken = absurd (omega arith)
+none-first (b ∷ bs) h broken =
+    elim (cases-bool (eqb b 32)) [
+      | inl e ↦ at (eqb-true b 32 e) (spelled (until 32 bs)) refl
+      | inr e ↦ ([], readings-stray b bs (eqb-false b 32 e))
+    ]
+  where
+    at : b ≡ 32 → (o : Option ℕ) → spelled (until 32 bs) ≡ o → (os : List (Option ℕ)) × (readings (b ∷ bs) ≡ None ∷ os)
+    at space None is = (readings (since 32 bs), ap (λ c. readings (c ∷ bs)) space ∙ readings-space bs ∙ ap (λ o. o ∷ readings (since 32 bs)) is)
+    at space (Some n) is = absurd (broken (until 32 bs, since 32 bs, n, ap (λ c. c ∷ bs) space ∙ ap (λ l. 32 ∷ l) (sym (join-cut bs)), since-ends bs, word-from-spelled (until 32 bs) n is))
+
+gap-at : (k : ℕ) (ns : List ℕ) (os : List (Option ℕ)) → gap k (map Some ns ++ None ∷ os) ≡ Some (k + length ns)
+gap-at k [] os = let same : k ≡ k + 0 = omega arith in ap Some same
+gap-at k (n ∷ ns) os = let same : suc k + length ns ≡ k + suc (length ns) = omega arith in gap-at (suc k) ns os ∙ ap Some same
+
+pub named : (text : List ℕ) (k : ℕ) → Leftmost-malformed text k → malformed text ≡ Some k
+named text k h =
+    let g = none-first (h .rest) (h .more) (h .broken) in
+    let same : 1 + length (h .numbers) ≡ k = omega (arith, h .place) in
+    ap (λ l. gap 1 (readings l)) (h .parts)
+    ∙ ap (gap 1) (after-words (h .before) (h .rest) (h .numbers) (h .spelled) (h .edge) ∙ ap (λ os. map Some (h .numbers) ++ os) (g .1))
+    ∙ gap-at 1 (h .numbers) (g .0)
+    ∙ ap Some same
 
 -- ---- all together
 
@@ -278,6 +167,7 @@ reads-by-grammar text r e = at (malformed text) refl
           complete = λ ns s. e ∙ reads text ns s;
           returns = λ ns small t. e ∙ reads text ns (subst (λ l. Spelled l ns) (sym t) (spell-spelled ns small));
           leftmost = λ k h. let z : _≡_ {A = ℕ} 0 1 = cc in absurd (omega arith);
+          named = λ k h. e ∙ ap (λ o. unless o (numbersIn text)) (named text k h);
           only = λ f h. let z : _≡_ {A = ℕ} 0 1 = cc in absurd (omega arith);
         }
     at (Some k) is =
@@ -287,5 +177,6 @@ reads-by-grammar text r e = at (malformed text) refl
           complete = λ ns s. e ∙ reads text ns s;
           returns = λ ns small t. e ∙ reads text ns (subst (λ l. Spelled l ns) (sym t) (spell-spelled ns small));
           leftmost = λ j h. let same : k ≡ j = cc in leftmost text j (is ∙ ap Some same);
+          named = λ j h. e ∙ ap (λ o. unless o (numbersIn text)) (named text j h);
           only = λ f h. (k, cc);
         }

@@ -1,6 +1,5 @@
 -- The grammar of words, as relations between a text and the numbers that it spells.
 use mathlib.Core.List.{List, [], _∷_, _++_}
-use mathlib.Core.Logic.{_⊎_}
 use mathlib.Core.Path.{_≡_}
 use Prim.Native.Nat.{ℕ, _+_, _≤_}
 use lib.ListN.{length, getD}
@@ -37,7 +36,7 @@ Ends (b ∷ bs) = b ≡ 32
 abbrev pub Begins-with-word : List ℕ → Type 0
 Begins-with-word text = (w : List ℕ) × (rest : List ℕ) × (n : ℕ) × (text ≡ 32 ∷ (w ++ rest)) × Ends rest × Word w n
 
--- The word at place k is malformed, and no word before it: k - 1 words are spelled, and what follows them is neither the end nor begins with a word.
+-- The word at place k is malformed, and no word before it: k - 1 words are spelled, the last of them ends where the rest begins, and the rest is neither empty nor begins with a word.
 pub record Leftmost-malformed (text : List ℕ) (k : ℕ) : Type 0 where
   pub before : List ℕ
   pub rest : List ℕ
@@ -46,6 +45,7 @@ pub record Leftmost-malformed (text : List ℕ) (k : ℕ) : Type 0 where
   pub spelled : Spelled before numbers
   pub place : k ≡ length numbers + 1
   pub more : 1 ≤ length rest
+  pub edge : 1 ≤ length numbers → Ends rest
   pub broken : Begins-with-word rest → ⊥
 
 -- The bytes are read as a number exactly when they are a word for it.

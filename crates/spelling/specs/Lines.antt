@@ -26,9 +26,9 @@ lines (b ∷ bs) = cond (eqb b 10) ([] ∷ lines bs) (onto b (lines bs))
 abbrev pub past : List ℕ → List ℕ
 past bs = drop 1 (since 10 bs)
 
--- One call of `next` on the lines of s gives the first of them, and leaves those of t.
+-- One call of `next` on the lines of s gives the first of them, and leaves those of t; where there is none, none is left.
 abbrev pub Gives : List ℕ → Option (RefT (List ℕ)) → List ℕ → Type 0
-Gives s None t = lines s ≡ []
+Gives s None t = (lines s ≡ []) × (lines t ≡ [])
 Gives s (Some x) t = lines s ≡ x .now ∷ lines t
 
 -- The one of a list with a number, counted from 1.

@@ -20,10 +20,11 @@ unless (Some k) x = Err (Malformed k)
 abbrev pub wordsRead : List ℕ → Result (List ℕ) WordFault
 wordsRead bs = unless (malformed bs) (numbersIn bs)
 
--- A text is read as numbers exactly when it spells them, the spelling of numbers is read as those numbers, and a fault names the leftmost malformed word.
+-- A text is read as numbers exactly when it spells them, the spelling of numbers is read as those numbers, and a fault is exactly that of the leftmost malformed word.
 pub record Reads-by-grammar (text : List ℕ) (r : Result (List ℕ) WordFault) : Type 0 where
   pub sound : (ns : List ℕ) → r ≡ Ok ns → Spelled text ns
   pub complete : (ns : List ℕ) → Spelled text ns → r ≡ Ok ns
   pub returns : (ns : List ℕ) → Small ns → text ≡ spell ns → r ≡ Ok ns
   pub leftmost : (k : ℕ) → r ≡ Err (Malformed k) → Leftmost-malformed text k
+  pub named : (k : ℕ) → Leftmost-malformed text k → r ≡ Err (Malformed k)
   pub only : (e : WordFault) → r ≡ Err e → (k : ℕ) × (e ≡ Malformed k)

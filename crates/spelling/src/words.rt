@@ -1,6 +1,6 @@
 // The words of a line, as a view of its text that yields their numbers: nothing is copied.
 ghost use mathlib.Core.Path.{_≡_};
-ghost use lib.ListN.{length};
+ghost use lib.ListN.{length, getD, drop};
 ghost use Rattle.std.specs.Results.{mapped};
 ghost use Rattle.spelling.specs.Reading.{wordsRead, Reads-by-grammar};
 ghost use Rattle.spelling.specs.Views.{numbersOf, Yields};
@@ -46,6 +46,28 @@ impl<'a> Words<'a> {
             None => Ok(Words { rest: text }),
         }
     }
+
+    /// How many words are still to come.
+    pub fn len(&self) -> usize
+        ensures { λ r. ⌜ r ≡ length (numbersOf (now (self .entry))) ⌝ }
+    {
+        let mut count = 0;
+        for _ in *self {
+            count += 1;
+        }
+        count
+    }
+
+    /// The next number, or 0 where there is none.
+    pub fn take_next(&mut self) -> u16
+        ensures value { λ r. ⌜ r ≡ getD (numbersOf (now (self .entry))) 0 0 ⌝ }
+        ensures rest { λ _. ⌜ numbersOf (now (self .exit)) ≡ drop 1 (numbersOf (now (self .entry))) ⌝ }
+    {
+        match self.next() {
+            Some(number) => number,
+            None => 0,
+        }
+    }
 }
 
 pub impl<'a> Iterator for Words<'a> as WordsIterator {
@@ -62,7 +84,8 @@ pub impl<'a> Iterator for Words<'a> as WordsIterator {
             return None;
         };
         let (word, rest) = cut(after, b' ');
+        let value = number(word)?;
         self.rest = rest;
-        number(word)
+        Some(value)
     }
 }

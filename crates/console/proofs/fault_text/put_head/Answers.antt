@@ -6,7 +6,7 @@ use lib.Chars.{codes}
 use Rattle.std.specs.Of.Vec.{vec-items}
 use Rattle.std.specs.Written.{decimal}
 use Rattle.spelling.specs.Grammar.{spell}
-use Rattle.market_file.specs.Causes.{marketCause, layerOf, faultLine, faultWord}
+use Rattle.market_lines.specs.Causes.{marketCause, layerOf, faultLine, faultWord}
 use Rattle.console.specs.Printed.{sourceLetter, layerName, faultNumbers}
 use Rattle.console.proofs.Joining.{onward, spell-first}
 use Rattle.console.proofs.fault_text.put_head.Needs as need

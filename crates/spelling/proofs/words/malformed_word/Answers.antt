@@ -11,7 +11,7 @@ use Rattle.std.specs.Options.{isSome}
 use Rattle.spelling.specs.Cuts.{until, since}
 use Rattle.spelling.specs.Words.{spelled, readings, gap}
 use Rattle.spelling.proofs.Cutting.{length-since}
-use Rattle.spelling.proofs.Sentences.{turn-stray, turn-word, gap-here, gap-more}
+use Rattle.spelling.proofs.Readings.{turn-stray, turn-word, gap-here, gap-more}
 use Rattle.spelling.proofs.words.malformed_word.Needs as need
 use Rattle.spelling.proofs.words.malformed_word.Needs.{After-number}
 

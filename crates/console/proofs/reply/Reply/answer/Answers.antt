@@ -3,7 +3,7 @@ use mathlib.Core.Path.{_≡_, sym, ap, _∙_}
 use native.Mathlib.Omega.{arith}
 use Rattle.std.specs.Of.Vec.{vec-items}
 use Rattle.std.specs.declared.result.Result.the-variants.{Err}
-use Rattle.console.specs.Printed.{summary, verdictOf, verdict}
+use Rattle.console.specs.Printed.{okText, verdictOf, verdict}
 use Rattle.console.proofs.Judging.{fault-fits, tells}
 use Rattle.console.proofs.reply.Reply.answer.Needs as need
 
@@ -14,9 +14,9 @@ put-fault-requires c κs =
 pub returns-in-Ok : need.returns-in-Ok
 returns-in-Ok c =
     let market = c .args .market .now in
-    let e : vec-items (c .put-summary .last .out) ≡ verdict market =
-    c .put-summary .ensures .items
-    ∙ ap (λ l. l ++ summary market) (c .clear .ensures .items)
+    let e : vec-items (c .put-ok .last .out) ≡ verdict market =
+    c .put-ok .ensures .items
+    ∙ ap (λ l. l ++ okText (c .in-Ok .form .sizes)) (c .clear .ensures .items)
     ∙ ap (verdictOf market) (c .in-Ok .ensures tt .value)
     in
     record { text = e; law = tells market _ e }

@@ -1,5 +1,5 @@
-use mathlib.Core.List.{_∷_}
-use mathlib.Core.Path.{sym, ap, _∙_}
+use mathlib.Core.List.{[], _∷_}
+use mathlib.Core.Path.{_≡_, sym, ap, _∙_}
 use borrow.Author.Needs.{needs}
 use native.Mathlib.Omega.{arith}
 use Prim.Native.Nat.{_<_}
@@ -12,7 +12,8 @@ use Rattle.spelling.proofs.lines.LinesIterator.next.Needs as need
 
 pub returns-then-is-empty : need.returns-then-is-empty
 returns-then-is-empty c =
-    record { steps = ap lines (nil-from-length (c .args .self .now .rest .now) (eqb-true _ 0 (sym (c .if-is-empty .ensures tt)))); goes = search needs }
+    let e : lines (c .args .self .now .rest .now) ≡ [] = ap lines (nil-from-length (c .args .self .now .rest .now) (eqb-true _ 0 (sym (c .if-is-empty .ensures tt)))) in
+    record { steps = (e, e); goes = search needs }
 
 pub returns : need.returns
 returns c =

@@ -1,0 +1,4 @@
+pub mod Causes
+pub mod Kinds
+pub mod Records
+pub mod Reports

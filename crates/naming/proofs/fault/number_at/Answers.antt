@@ -1,0 +1,6 @@
+use mathlib.Core.Path.{sym}
+use Rattle.std.proofs.shelf.Lists.{getD-past}
+use Rattle.naming.proofs.fault.number_at.Needs as need
+
+pub returns-else-index-numbers : need.returns-else-index-numbers
+returns-else-index-numbers c = sym (getD-past (c .args .numbers .now) (c .args .index) 0 (c .if-index-numbers .left))
