@@ -1,4 +1,5 @@
 //! What the program prints: every byte of it is made here, from the bytes of the market file.
+#![tactic(auto)]
 
 mod fault_text;
 mod ok_text;

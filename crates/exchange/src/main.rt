@@ -1,4 +1,5 @@
 //! `exchange`: reads market.txt in its working folder and prints what the library answers.
+#![tactic(auto)]
 
 mod market_bytes;
 

@@ -1,4 +1,5 @@
 //! Inheritance rules: who owns a place in a row.
+#![tactic(auto)]
 
 pub mod base;
 pub mod priorities;

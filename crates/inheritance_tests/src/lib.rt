@@ -1,4 +1,5 @@
 //! What rules answer in small markets.
+#![tactic(auto)]
 
 #[cfg(test)]
 mod tests;

@@ -1,4 +1,5 @@
 //! The nouns of a market: agents, places, tenants, the nodes of inheritance trees, standings and refusals.
+#![tactic(auto)]
 
 pub mod agent;
 pub mod node;

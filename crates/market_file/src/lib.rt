@@ -1,4 +1,5 @@
 //! The form of a market file: which lines it has, in which order, with how many words and in which ranges.
+#![tactic(auto)]
 
 mod bounds;
 pub mod file;

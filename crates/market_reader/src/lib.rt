@@ -1,4 +1,5 @@
 //! The market that a file says, in room made beforehand, and the reader that fills it.
+#![tactic(auto)]
 
 mod lists;
 mod numbered;

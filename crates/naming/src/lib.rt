@@ -1,4 +1,5 @@
 //! What the lines of a market file name: nothing twice, and parents that come earlier.
+#![tactic(auto)]
 
 pub mod fault;
 mod names;

@@ -1,5 +1,7 @@
 //! Rounds: what each call makes of a round and answers, and the laws that bind all rounds. The functions do nothing;
 //! each contract states a law, or what a worked round comes to.
+#![tactic(auto)]
+
 ghost use Rattle.std.specs.Prelude.{◌≡◌, [], ◌∷◌, ◌++◌, map, Ok, Err, codes};
 ghost use Rattle.market.specs.declared.refusal.Refusal.{Refusal};
 ghost use Rattle.market.specs.declared.standing.Standing.{Standing};

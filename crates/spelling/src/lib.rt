@@ -1,4 +1,5 @@
 //! How files are spelled: bytes cut into lines, lines into words, words read as numbers.
+#![tactic(auto)]
 
 mod cut;
 pub mod fault;

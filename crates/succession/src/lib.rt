@@ -1,4 +1,5 @@
 //! Who comes next for a place: orders of agents, trees of heirs and tenants, as lists.
+#![tactic(auto)]
 
 pub mod data;
 pub mod order;

@@ -1,5 +1,7 @@
 //! Hierarchical exchange by top trading cycles: what is proved of it for every economy. The functions do nothing; each
 //! contract states a theorem.
+#![tactic(auto)]
+
 ghost use Rattle.std.specs.Prelude.{◌≡◌, [], ◌∷◌, map, Some, None};
 ghost use Rattle.market.specs.declared.standing.Standing.TheVariants.{Placed, Unplaced};
 ghost use Rattle.trading.specs.Cycles.{cycle_through};

@@ -7,6 +7,6 @@ split-at-requires c = rw c.length-before.ensures (length_until _ _)
 
 pub returns : goal.returns
 returns c = record {
-  front = c.split-at.ensures.front ∙ ap (λ n. take n c.args.bytes.now) c.length-before.ensures ∙ take_until c.args.at c.args.bytes.now;
-  rest = c.split-at.ensures.back ∙ ap (λ n. drop n c.args.bytes.now) c.length-before.ensures ∙ drop_until c.args.at c.args.bytes.now;
+  front = c.split_at.ensures.front ∙ ap (λ n. take n c.args.bytes.now) c.length_before.ensures ∙ take_until c.args.at c.args.bytes.now;
+  rest = c.split_at.ensures.back ∙ ap (λ n. drop n c.args.bytes.now) c.length_before.ensures ∙ drop_until c.args.at c.args.bytes.now;
 }

@@ -10,8 +10,8 @@ returns-then-not-is-ascii-digit c =
 
 pub loop-b-preserved : goal.loop-b-preserved
 loop-b-preserved c = (
-  ap (λ d. digits_after (10 * c.loop-b.n + d) (drop (c.loop-b.b-index + 1) c.args.text.now)) c.from.ensures ∙ sym (digit_more _ _ _ c.loop-b-test.true (sym c.if-not-is-ascii-digit.ensures.value)) ∙ c.loop-b.invariant.0,
-  rw (add-one, pow-suc) (omega (arith, c.if-not-is-ascii-digit.ensures.cases)),
+  ap (λ d. digits_after (10 * c.loop-b.n + d) (drop (c.loop-b.b-index + 1) c.args.text.now)) c.from.ensures ∙ sym (digit_more _ _ _ c.loop-b-test.true (sym c.if-not-is_ascii_digit.ensures.value)) ∙ c.loop-b.invariant.0,
+  rw (add-one, pow-suc) (omega (arith, c.if-not-is_ascii_digit.ensures.cases)),
 )
 
 pub returns : goal.returns

@@ -48,7 +48,7 @@ loop-rest-smaller c = shorter (goal.at.loop-rest-smaller c).After-number
 pub loop-rest-preserved : goal.loop-rest-preserved
 loop-rest-preserved c =
     let d = (goal.at.loop-rest-preserved c).After-number in (
-      sym (ap (gap c.loop-rest.place) (turned d) ∙ gap_more c.loop-rest.place c.number.result (readings c.cut.result.1.now) c.if-is-none.ensures) ∙ c.loop-rest.invariant.0,
+      sym (ap (gap c.loop-rest.place) (turned d) ∙ gap_more c.loop-rest.place c.number.result (readings c.cut.result.1.now) c.if-is_none.ensures) ∙ c.loop-rest.invariant.0,
       omega (arith, shorter d, c.loop-rest.invariant.1),
     )
 

@@ -14,8 +14,8 @@ returns-then-is-empty c =
 pub returns : goal.returns
 returns c =
     let bs = c.args.self.now.rest.now in
-    let some : 0 < length bs = omega (arith, eqb-false (length bs) 0 (sym c.if-is-empty.ensures)) in
+    let some : 0 < length bs = omega (arith, eqb-false (length bs) 0 (sym c.if-is_empty.ensures)) in
     record {
-      steps = lines_step bs some ∙ ap (λ l. l ∷ lines (past bs)) (sym c.split-line.ensures.line) ∙ ap (λ l. c.split-line.result.0.now ∷ lines l) (sym c.split-line.ensures.rest);
-      goes = firm ((tt, tt, omega (arith, length_past bs some, ap length c.split-line.ensures.rest))) (λ h. search rules);
+      steps = lines_step bs some ∙ ap (λ l. l ∷ lines (past bs)) (sym c.split_line.ensures.line) ∙ ap (λ l. c.split_line.result.0.now ∷ lines l) (sym c.split_line.ensures.rest);
+      goes = firm ((tt, tt, omega (arith, length_past bs some, ap length c.split_line.ensures.rest))) (λ h. search rules);
     }

@@ -39,7 +39,7 @@ returns-in-err-value c =
 pub returns : goal.returns
 returns c =
     let d = (goal.at.returns c).After-number in
-    let e : leading (readings c.args.self.now.rest.now) ≡ c.in-ok-value.value ∷ leading (readings c.cut.result.1.now) =
-    ap leading (turned d) ∙ leading_some c.in-ok-value.value c.number.result (readings c.cut.result.1.now) c.in-ok-value.was
+    let e : leading (readings c.args.self.now.rest.now) ≡ c.in_ok-value.value ∷ leading (readings c.cut.result.1.now) =
+    ap leading (turned d) ∙ leading_some c.in_ok-value.value c.number.result (readings c.cut.result.1.now) c.in_ok-value.was
     in
     record { steps = e; goes = firm ((tt, tt, omega (arith, ap length e))) (λ h. search rules) }
