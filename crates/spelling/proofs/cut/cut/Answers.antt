@@ -2,8 +2,8 @@ use Rattle.std.proofs.Common.{take, drop, ap, ◌∙◌}
 use Rattle.spelling.proofs.Cutting.{take_until, drop_until, length_until}
 use Rattle.spelling.proofs.cut.cut.Goals as goal
 
-pub split-at-requires : goal.split-at-requires
-split-at-requires c = rw c.length-before.ensures (length_until _ _)
+pub split_at-requires : goal.split_at-requires
+split_at-requires c = rw c.length_before.ensures (length_until _ _)
 
 pub returns : goal.returns
 returns c = record {

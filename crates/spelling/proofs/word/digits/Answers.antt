@@ -4,9 +4,9 @@ use Rattle.spelling.specs.Words.{digits_after}
 use Rattle.spelling.proofs.Numbers.{digit_more, digit_none}
 use Rattle.spelling.proofs.word.digits.Goals as goal
 
-pub returns-then-not-is-ascii-digit : goal.returns-then-not-is-ascii-digit
-returns-then-not-is-ascii-digit c =
-    sym (digit_none _ _ _ c.loop-b-test.true (sym c.if-not-is-ascii-digit.ensures.value)) ∙ c.loop-b.invariant.0
+pub returns-then-not-is_ascii_digit : goal.returns-then-not-is_ascii_digit
+returns-then-not-is_ascii_digit c =
+    sym (digit_none _ _ _ c.loop-b-test.true (sym c.if-not-is_ascii_digit.ensures.value)) ∙ c.loop-b.invariant.0
 
 pub loop-b-preserved : goal.loop-b-preserved
 loop-b-preserved c = (

@@ -36,10 +36,10 @@ returns-then-space-ne32 c =
     sym (ap (gap c.loop-rest.place) (turn_stray rest (get_or rest 0 0) (between 1 (length rest) rest) (first_rest rest 0 (search rules)) c.if-space-ne32.true))
     ∙ c.loop-rest.invariant.0
 
-pub returns-then-is-none : goal.returns-then-is-none
-returns-then-is-none c =
-    let d = (goal.at.returns-then-is-none c).After-number in
-    sym (ap (gap c.loop-rest.place) (turned d) ∙ gap_here c.loop-rest.place c.number.result (readings c.cut.result.1.now) c.if-is-none.ensures)
+pub returns-then-is_none : goal.returns-then-is_none
+returns-then-is_none c =
+    let d = (goal.at.returns-then-is_none c).After-number in
+    sym (ap (gap c.loop-rest.place) (turned d) ∙ gap_here c.loop-rest.place c.number.result (readings c.cut.result.1.now) c.if-is_none.ensures)
     ∙ c.loop-rest.invariant.0
 
 pub loop-rest-smaller : goal.loop-rest-smaller

@@ -19,22 +19,22 @@ turned c =
     ∙ ap (λ o. o ∷ readings (since 32 after)) (ap spelled (sym c.cut.ensures.front) ∙ sym c.number.ensures.value)
     ∙ ap (λ l. c.number.result ∷ readings l) (sym c.cut.ensures.rest)
 
-pub returns-in-default : goal.returns-in-default
-returns-in-default c =
+pub returns-in_default : goal.returns-in_default
+returns-in_default c =
     let e : leading (readings c.args.self.now.rest.now) ≡ [] = ap (λ l. leading (readings l)) (nil_from_length c.args.self.now.rest.now (search rules)) in
     record { steps = (e, e); goes = search rules }
 
-pub returns-in-default·2 : goal.returns-in-default·2
-returns-in-default·2 c =
+pub returns-in_default-2 : goal.returns-in_default-2
+returns-in_default-2 c =
     let rest = c.args.self.now.rest.now in
     let e : leading (readings rest) ≡ [] = ap leading (turn_stray rest (get_or rest 0 0) (between 1 (length rest) rest) (first_rest rest 0 (search rules)) (search rules)) in
     record { steps = (e, e); goes = search rules }
 
-pub returns-in-err-value : goal.returns-in-err-value
-returns-in-err-value c =
-    let d = (goal.at.returns-in-err-value c).After-number in
-    let e : leading (readings c.args.self.now.rest.now) ≡ [] = ap leading (turned d) ∙ leading_none c.number.result (readings c.cut.result.1.now) c.in-err-value.was in
-    rw c.from-residual.ensures (record { steps = (e, e); goes = search rules })
+pub returns-in_err-value : goal.returns-in_err-value
+returns-in_err-value c =
+    let d = (goal.at.returns-in_err-value c).After-number in
+    let e : leading (readings c.args.self.now.rest.now) ≡ [] = ap leading (turned d) ∙ leading_none c.number.result (readings c.cut.result.1.now) c.in_err-value.was in
+    rw c.from_residual.ensures (record { steps = (e, e); goes = search rules })
 
 pub returns : goal.returns
 returns c =
