@@ -1,5 +1,5 @@
 -- What a line names wrongly, and what that means. Assumes nothing.
-use Rattle.std.proofs.Common.{◌≡◌, ℕ, zero, suc, ◌+◌, Bool, true, false, cond, not, ◌&&◌, eqb, ◌⊎◌, List, [], ◌∷◌, get_or, drop, Some, None, Option, sym, refl, ap, ◌∙◌, subst, inl, inr, arith}
+use Rattle.std.proofs.Common.{◌≡◌, ℕ, zero, suc, ◌+◌, Bool, true, false, cond, not, ◌&&◌, eqb, ◌⊎◌, List, [], ◌∷◌, get_or, drop, Some, None, Option, sym, refl, ap, ◌∙◌, inl, inr, arith}
 use Rattle.std.proofs.lemmas.Bool.{cases_Bool, eqb-true, eq-eqb, or_parts, or_from, and_parts, and_from, not-false, not_from_true, both_ways}
 use Rattle.std.specs.List.{slice_get, AllByRecursion as All}
 use Rattle.market.specs.declared.node.Node.{Node}
@@ -10,8 +10,8 @@ use Rattle.market_lines.proofs.Lettering.{same_letter}
 use Rattle.naming.specs.declared.fault.Name.{Name}
 use Rattle.naming.specs.declared.fault.NameFault.{NameFault}
 use Rattle.naming.specs.declared.fault.NameFault.TheVariants.{Parent, Twice}
-use Rattle.naming.specs.Faults.{twice_from, node_fault, first_fault, name_fault}
-use Rattle.naming.specs.Laws.{Unnamed, Unlike, ParentRight, NamesRightly, NamedOrRepeated, NodeWrong, NamesWrongly, NamesLaw}
+use Rattle.naming.specs.Faults.{twice_from, first_fault, name_fault}
+use Rattle.naming.specs.Laws.{Unnamed, Unlike, ParentRight, NamedOrRepeated, NamesLaw}
 use Rattle.naming.specs.Names.{is_name, named_before, is_node, node_before, at_place, parent_fits}
 use Rattle.naming.specs.Repeats.{any_of, repeat_in, Distinct, LeftmostRepeat}
 use Rattle.naming.proofs.Repeating.{repeats_exactly}

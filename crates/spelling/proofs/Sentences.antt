@@ -9,7 +9,7 @@ use Rattle.spelling.specs.Grammar.{Spelled, Ends, BeginsWithWord, LeftmostMalfor
 use Rattle.spelling.specs.Reading.{unless, words_read, ReadsByGrammar}
 use Rattle.spelling.specs.Words.{spelled, readings, gap, malformed, numbers_in}
 use Rattle.spelling.proofs.Spelling.{word_from_spelled, spelled_from_word}
-use Rattle.spelling.proofs.Readings.{readings_stray, readings_space, Unspaced, spaced, spaced_ends, apart, afters_unspaced, cut_after, unspaced_word, sound, reads, spell_spelled, complete}
+use Rattle.spelling.proofs.Readings.{readings_stray, readings_space, Unspaced, spaced, spaced_ends, apart, afters_unspaced, cut_after, unspaced_word, sound, reads, spell_spelled}
 
 -- ---- the leftmost malformed word
 

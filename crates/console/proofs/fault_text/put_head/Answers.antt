@@ -1,4 +1,4 @@
-use Rattle.std.proofs.Common.{◌≡◌, ℕ, List, [], ◌∷◌, ◌++◌, vec_items, codes, decimal, sym, ap, ◌∙◌, arith}
+use Rattle.std.proofs.Common.{◌≡◌, ℕ, [], ◌∷◌, ◌++◌, vec_items, codes, decimal, sym, ap, ◌∙◌, arith}
 use Rattle.spelling.specs.Grammar.{spell}
 use Rattle.market_lines.specs.Causes.{market_cause, layer_of, fault_line, fault_word}
 use Rattle.console.specs.Printed.{source_letter, layer_name, fault_numbers}

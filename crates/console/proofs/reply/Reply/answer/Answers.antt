@@ -1,4 +1,4 @@
-use Rattle.std.proofs.Common.{◌≡◌, ◌++◌, Err, vec_items, sym, ap, ◌∙◌, arith}
+use Rattle.std.proofs.Common.{◌≡◌, ◌++◌, Err, vec_items, ap, ◌∙◌, arith}
 use Rattle.console.specs.Printed.{ok_text, verdict_of, verdict}
 use Rattle.console.proofs.Judging.{fault_fits, tells}
 use Rattle.console.proofs.reply.Reply.answer.Goals as goal
