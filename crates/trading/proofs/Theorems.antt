@@ -7,7 +7,7 @@ use Rattle.trading.specs.Economies.{RowIn, all_waiting}
 use Rattle.trading.specs.Rankings.{rank}
 use Rattle.trading.specs.Trades.{points_at, next, walk}
 use Rattle.trading.specs.Cycles.{among}
-use Rattle.trading.specs.Stages.{Staged, stages, last_row}
+use Rattle.trading.specs.Stages.{Staged, last_row}
 use Rattle.trading.specs.Theorems.{BetterInWords, EquallyGood, PointsAtBest, AllWaitingProper, TradeProper, TradeWithin, OutcomeWithin, WalkMeetsCycle, FoundIsCycle, CycleIsFound, FirstFinds, SameMembers, CycleLasts, TradesCommute, RunEnds, RunsAgree, SameRuns, StagedOnce, RunIsStaged, NoGroupGains, NoAgentGains, NobodyBossy, SomebodyWorse}
 use Rattle.trading.proofs.Economies.{all_waiting_row}
 use Rattle.trading.proofs.Rankings.{better_preferred, preferred_better}
