@@ -16,7 +16,7 @@ loop-at-preserved g c =
           ∙ ap (set (map vec_items lists) i) c.clear.ensures.items
           ∙ ap (λ l. set l i []) c.loop-at.invariant.0
           ∙ emptied_more i all [] within,
-      map-set_same vec_capacity lists i c.clear.new.self c.index-mut.result.now (c.clear.ensures.capacity ∙ ap vec_capacity c.index-mut.ensures.value)
+      map-set_same vec_capacity lists i c.clear.new.self c.index_mut.result.now (c.clear.ensures.capacity ∙ ap vec_capacity c.index_mut.ensures.value)
           ∙ c.loop-at.invariant.1,
       c.loop-at.invariant.2,
     )

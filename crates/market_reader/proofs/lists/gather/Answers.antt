@@ -8,11 +8,11 @@ loop-number-preserved g c =
     let items = vec_items c.loop-number.list in
     let rest = map stands (numbers_of c.next.new.self) in
     let first = c.in-Some.ensures.steps in (
-      ap (λ l. l ++ rest) c.push-reserved.ensures.items
-          ∙ append_assoc items (c.with-number.result ∷ []) rest
-          ∙ ap (λ x. items ++ x ∷ rest) c.with-number.ensures
+      ap (λ l. l ++ rest) c.push_reserved.ensures.items
+          ∙ append_assoc items (c.with_number.result ∷ []) rest
+          ∙ ap (λ x. items ++ x ∷ rest) c.with_number.ensures
           ∙ ap (λ l. items ++ map stands l) (sym first)
           ∙ c.loop-number.invariant.0,
-      omega (arith, c.push-reserved.ensures.len, c.push-reserved.ensures.capacity, ap length first, c.loop-number.invariant.1),
-      c.push-reserved.ensures.capacity ∙ c.loop-number.invariant.2,
+      omega (arith, c.push_reserved.ensures.len, c.push_reserved.ensures.capacity, ap length first, c.loop-number.invariant.1),
+      c.push_reserved.ensures.capacity ∙ c.loop-number.invariant.2,
     )

@@ -12,8 +12,8 @@ gather-requires g c =
     let i = c.from-at.result - 1 in
     let size = length-map lists vec_capacity in
     let inside : i < length (map vec_capacity lists) = omega (arith, size, c.args.lists.now.ok.0) in
-    let room = room_at (length (numbers_of c.args.words)) (map vec_capacity lists) i (vec_capacity c.index-mut.result.now) inside c.requires in
-    omega (arith, room, ap vec_capacity c.index-mut.ensures.value, get_or-map vec_capacity lists i c.index-mut.result.now)
+    let room = room_at (length (numbers_of c.args.words)) (map vec_capacity lists) i (vec_capacity c.index_mut.result.now) inside c.requires in
+    omega (arith, room, ap vec_capacity c.index_mut.ensures.value, get_or-map vec_capacity lists i c.index_mut.result.now)
 
 pub returns-then-at-len : goal.returns-then-at-len
 returns-then-at-len g c =
@@ -25,7 +25,7 @@ returns-then-at-len g c =
           map-set vec_items lists i c.gather.new.list
           ∙ ap (set (map vec_items lists) i) c.gather.ensures.items
           ∙ sym (set_at_index (map vec_items lists) c.args.number i (map g.T.Numbered.stands (numbers_of c.args.words)) place);
-      capacities = map-set_same vec_capacity lists i c.gather.new.list c.index-mut.result.now (c.gather.ensures.capacity ∙ ap vec_capacity c.index-mut.ensures.value);
+      capacities = map-set_same vec_capacity lists i c.gather.new.list c.index_mut.result.now (c.gather.ensures.capacity ∙ ap vec_capacity c.index_mut.ensures.value);
       len = refl;
     }
 

@@ -16,8 +16,8 @@ use Rattle.market_reader.proofs.reader.read_market.Goals.{After-next-2}
 
 pub start-requires : goal.start-requires
 start-requires c =
-    let f = c.in-ok-form.form in
-    let kept = (c.in-ok-form.ensures.law.sound f refl).1 in
+    let f = c.in_ok-form.form in
+    let kept = (c.in_ok-form.ensures.law.sound f refl).1 in
     ((agents_bound (lines c.args.file.now) f kept).1, (places_bound (lines c.args.file.now) f kept).1)
 
 -- The lines after the first two.
@@ -29,44 +29,44 @@ others c =
     ∙ ap (λ l. drop 1 (drop 1 (lines l))) c.new-lines.ensures.all
     ∙ drop-drop 1 1 (lines file)
 
-pub enter-all-requires : goal.enter-all-requires
-enter-all-requires c =
+pub enter_all-requires : goal.enter_all-requires
+enter_all-requires c =
     let file = c.args.file.now in
-    let f = c.in-ok-form.form in
-    let kept = (c.in-ok-form.ensures.law.sound f refl).1 in
+    let f = c.in_ok-form.form in
+    let kept = (c.in_ok-form.ensures.law.sound f refl).1 in
     record {
       nodes = omega (arith, ap (λ h. length h.nodes) c.start.ensures);
       tenants = omega (arith, ap (λ h. length h.tenants) c.start.ensures);
       kinds = few_kinds f.sizes f.contents (agents_bound (lines file) f kept).1 (places_bound (lines file) f kept).1 kept.right;
-      few = subst (AllByRecursion (λ l. length (numbers_at l) ≤ 201)) (sym (others (goal.at.enter-all-requires c).After-next-2)) (few_kept (lines file) f kept);
+      few = subst (AllByRecursion (λ l. length (numbers_at l) ≤ 201)) (sym (others (goal.at.enter_all-requires c).After-next-2)) (few_kept (lines file) f kept);
     }
 
 pub returns : goal.returns
 returns c =
     let file = c.args.file.now in
-    let f = c.in-ok-form.form in
-    let read : Ok (held c.enter-all.new.market) ≡ market_read file =
-    ap Ok c.enter-all.ensures
+    let f = c.in_ok-form.form in
+    let read : Ok (held c.enter_all.new.market) ≡ market_read file =
+    ap Ok c.enter_all.ensures
     ∙ ap (λ h. Ok (after h (entries_of (kinds_of f.contents) (lines c.next-2.new.self.rest.now)))) c.start.ensures
     ∙ ap (λ ls. Ok (market_of f (entries_of (kinds_of f.contents) ls))) (others (goal.at.returns c).After-next-2)
-    ∙ ap (λ o. market_from o (lines file)) c.in-ok-form.ensures.value
+    ∙ ap (λ o. market_from o (lines file)) c.in_ok-form.ensures.value
     in
     record {
       value = ap verdict_of read;
       market = ap (λ r. left r (held c.args.market.now)) read;
       law = market_law file _ read;
-      ledger = c.check-form.ensures.after;
+      ledger = c.check_form.ensures.after;
     }
 
-pub returns-in-err-form : goal.returns-in-err-form
-returns-in-err-form c =
-    let p = err_from_is_err_and c.from-residual.result c.from-residual.ensures.1 in
+pub returns-in_err-form : goal.returns-in_err-form
+returns-in_err-form c =
+    let p = err_from_is_err_and c.from_residual.result c.from_residual.ensures.1 in
     let file = c.args.file.now in
-    let read : Err c.in-err-form.field-0.0 ≡ market_read file = ap (λ o. market_from o (lines file)) c.in-err-form.ensures.value in
-    let said : c.from-residual.result ≡ Err c.in-err-form.field-0.0 = p.1 ∙ ap Err p.2 in
+    let read : Err c.in_err-form.field-0.0 ≡ market_read file = ap (λ o. market_from o (lines file)) c.in_err-form.ensures.value in
+    let said : c.from_residual.result ≡ Err c.in_err-form.field-0.0 = p.1 ∙ ap Err p.2 in
     record {
       value = said ∙ ap verdict_of read;
       market = ap (λ r. left r (held c.args.market.now)) read;
       law = market_law file _ (ap (λ r. answered r (held c.args.market.now)) said ∙ read);
-      ledger = c.check-form.ensures.after;
+      ledger = c.check_form.ensures.after;
     }

@@ -9,24 +9,24 @@ use Rattle.market_reader.proofs.Entering.{order_entered}
 use Rattle.market_reader.proofs.Tabling.{room_fewer, take_set_at}
 use Rattle.market_reader.proofs.record.Market.enter.Goals as goal
 
-pub gather-at-requires : goal.gather-at-requires
-gather-at-requires c =
-    room_fewer 201 _ (map vec_capacity (vec_items c.args.self.now.priorities)) (omega (arith, c.requires.few, ap length c.take-next-about.ensures.rest, length-drop 1 (numbers_of c.args.words))) c.args.self.now.orders_room
+pub gather_at-requires : goal.gather_at-requires
+gather_at-requires c =
+    room_fewer 201 _ (map vec_capacity (vec_items c.args.self.now.priorities)) (omega (arith, c.requires.few, ap length c.take_next-about.ensures.rest, length-drop 1 (numbers_of c.args.words))) c.args.self.now.orders_room
 
-pub gather-at-requires-in-Ranking : goal.gather-at-requires-in-Ranking
-gather-at-requires-in-Ranking c =
-    room_fewer 201 _ (map vec_capacity (vec_items c.args.self.now.rankings)) (omega (arith, c.requires.few, ap length c.take-next-about.ensures.rest, length-drop 1 (numbers_of c.args.words))) c.args.self.now.rankings_room
+pub gather_at-requires-in-Ranking : goal.gather_at-requires-in-Ranking
+gather_at-requires-in-Ranking c =
+    room_fewer 201 _ (map vec_capacity (vec_items c.args.self.now.rankings)) (omega (arith, c.requires.few, ap length c.take_next-about.ensures.rest, length-drop 1 (numbers_of c.args.words))) c.args.self.now.rankings_room
 
-pub invariant-of-self-in-Priorities : goal.invariant-of-self-in-Priorities
-invariant-of-self-in-Priorities c =
+pub invariant_of-self-in-Priorities : goal.invariant_of-self-in-Priorities
+invariant_of-self-in-Priorities c =
     let k = c.args.self.now in
-    let told = c.gather-at.ensures in
+    let told = c.gather_at.ensures in
     (k.agents_few, (k.places_few, (k.capacities_room, (k.queue_room, (told.len ∙ k.places_room, (ap (room_for 201) told.capacities ∙ k.orders_room, (k.nodes_room, (k.tenants_room, (k.agents_room, (k.rankings_room, tt))))))))))
 
-pub invariant-of-self-in-Ranking : goal.invariant-of-self-in-Ranking
-invariant-of-self-in-Ranking c =
+pub invariant_of-self-in-Ranking : goal.invariant_of-self-in-Ranking
+invariant_of-self-in-Ranking c =
     let k = c.args.self.now in
-    let told = c.gather-at-in-Ranking.ensures in
+    let told = c.gather_at-in-Ranking.ensures in
     (k.agents_few, (k.places_few, (k.capacities_room, (k.queue_room, (k.places_room, (k.orders_room, (k.nodes_room, (k.tenants_room, (told.len ∙ k.agents_room, (ap (room_for 201) told.capacities ∙ k.rankings_room, tt))))))))))
 
 -- The first word and the others.
@@ -38,8 +38,8 @@ returns-in-Priorities c =
     let k = c.args.self.now in
     let ns = numbers_of c.args.words in
     let lists = map vec_items (vec_items k.priorities) in
-    let first = c.take-next-about in
-    ap (with_orders (held k)) (order_entered k.served (vec_items k.queue) k.sizes.places lists (map vec_items (vec_items c.gather-at.new.lists)) ns (c.gather-at.ensures.items ∙ parted lists agents_in first.result (numbers_of first.new.self) ns first.ensures.value first.ensures.rest))
+    let first = c.take_next-about in
+    ap (with_orders (held k)) (order_entered k.served (vec_items k.queue) k.sizes.places lists (map vec_items (vec_items c.gather_at.new.lists)) ns (c.gather_at.ensures.items ∙ parted lists agents_in first.result (numbers_of first.new.self) ns first.ensures.value first.ensures.rest))
     ∙ ap (λ x. entered x ns (held k)) (sym c.in-Priorities.is)
 
 pub returns-in-Ranking : goal.returns-in-Ranking
@@ -47,7 +47,7 @@ returns-in-Ranking c =
     let k = c.args.self.now in
     let ns = numbers_of c.args.words in
     let lists = map vec_items (vec_items k.rankings) in
-    let first = c.take-next-about in
-    ap (λ l. with_rankings (held k) (take k.sizes.agents l)) (c.gather-at-in-Ranking.ensures.items ∙ parted lists places_in first.result (numbers_of first.new.self) ns first.ensures.value first.ensures.rest)
+    let first = c.take_next-about in
+    ap (λ l. with_rankings (held k) (take k.sizes.agents l)) (c.gather_at-in-Ranking.ensures.items ∙ parted lists places_in first.result (numbers_of first.new.self) ns first.ensures.value first.ensures.rest)
     ∙ ap (with_rankings (held k)) (take_set_at k.sizes.agents lists (about ns) (ranking_in ns))
     ∙ ap (λ x. entered x ns (held k)) (sym c.in-Ranking.is)

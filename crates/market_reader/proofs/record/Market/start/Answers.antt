@@ -9,9 +9,9 @@ pub returns : goal.returns
 returns c =
     let f = c.args.form in
     let k = c.args.self.now in
-    let orders = c.clear-all.new.lists in
-    let rankings = c.clear-all-2.new.lists in
-    alike _ (unfilled f) refl refl c.fill-zeros.ensures.items
-    (ap (λ s. orders_by s (vec_items c.clear.new.self) (take f.sizes.places (map vec_items (vec_items orders)))) c.served-by-self.ensures ∙ no_orders_at_first (eqb f.contents.queues 1) (vec_items c.clear.new.self) f.sizes.places (map vec_items (vec_items orders)) c.clear.ensures.items (c.clear-all.ensures.items ∙ ap (λ n. replicate n []) k.places_room) c.requires.1)
+    let orders = c.clear_all.new.lists in
+    let rankings = c.clear_all-2.new.lists in
+    alike _ (unfilled f) refl refl c.fill_zeros.ensures.items
+    (ap (λ s. orders_by s (vec_items c.clear.new.self) (take f.sizes.places (map vec_items (vec_items orders)))) c.served_by-self.ensures ∙ no_orders_at_first (eqb f.contents.queues 1) (vec_items c.clear.new.self) f.sizes.places (map vec_items (vec_items orders)) c.clear.ensures.items (c.clear_all.ensures.items ∙ ap (λ n. replicate n []) k.places_room) c.requires.1)
     c.clear-2.ensures.items c.clear-3.ensures.items
-    (ap (take f.sizes.agents) (c.clear-all-2.ensures.items ∙ ap (λ n. replicate n []) k.agents_room) ∙ take-replicate f.sizes.agents 200 [] c.requires.0)
+    (ap (take f.sizes.agents) (c.clear_all-2.ensures.items ∙ ap (λ n. replicate n []) k.agents_room) ∙ take-replicate f.sizes.agents 200 [] c.requires.0)
