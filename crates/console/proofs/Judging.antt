@@ -1,8 +1,8 @@
 -- What the verdict on a market file tells, and that it fits its room. Assumes nothing.
-use Rattle.std.proofs.Common.{◌≡◌, ℕ, zero, suc, ◌+◌, ◌≤◌, true, false, cond, eqb, List, [], ◌∷◌, ◌++◌, length, Err, codes, decimal, unwrap_or, sym, refl, ap, ◌∙◌, subst, inl, inr, arith}
+use Rattle.std.proofs.Common.{◌≡◌, ℕ, zero, suc, ◌≤◌, true, false, cond, eqb, List, [], ◌∷◌, ◌++◌, length, Err, codes, decimal, unwrap_or, sym, refl, ap, ◌∙◌, subst, inl, inr, arith}
 use Rattle.std.proofs.lemmas.Fmt.{decimal_digit}
 use Rattle.std.proofs.ByRecursion.{All-weaker}
-use Rattle.std.specs.List.{slice_get, AllByRecursion as All}
+use Rattle.std.specs.List.{slice_get, AllByRecursion}
 use Rattle.spelling.specs.Grammar.{spell}
 use Rattle.spelling.specs.Lines.{onto, lines}
 use Rattle.market_lines.specs.declared.fault.MarketFault.{MarketFault}
@@ -19,20 +19,20 @@ use Rattle.console.specs.Verdicts.{Tells}
 -- ---- the room
 
 -- No line is longer than its file.
-short_onto : (b n : ℕ) (ls : List (List ℕ)) → All (λ l. length l ≤ n) ls → All (λ l. length l ≤ suc n) (onto b ls)
+short_onto : (b n : ℕ) (ls : List (List ℕ)) → AllByRecursion (λ l. length l ≤ n) ls → AllByRecursion (λ l. length l ≤ suc n) (onto b ls)
 short_onto b n [] h = (omega arith, tt)
 short_onto b n (l ∷ ls) h = (omega (arith, h.0), All-weaker (λ l. length l ≤ n) (λ l. length l ≤ suc n) (λ l k. omega arith) ls h.1)
 
-lines_short : (bs : List ℕ) → All (λ l. length l ≤ length bs) (lines bs)
+lines_short : (bs : List ℕ) → AllByRecursion (λ l. length l ≤ length bs) (lines bs)
 lines_short [] = tt
 lines_short (b ∷ bs) =
     let below = lines_short bs in
-    elim (eqb b 10) as (λ t. All (λ l. length l ≤ suc (length bs)) (cond t ([] ∷ lines bs) (onto b (lines bs)))) [
+    elim (eqb b 10) as (λ t. AllByRecursion (λ l. length l ≤ suc (length bs)) (cond t ([] ∷ lines bs) (onto b (lines bs)))) [
       | true ↦ (omega arith, All-weaker (λ l. length l ≤ length bs) (λ l. length l ≤ suc (length bs)) (λ l k. omega arith) (lines bs) below)
       | false ↦ short_onto b (length bs) (lines bs) below
     ]
 
-nth_short : (n : ℕ) (ls : List (List ℕ)) (k : ℕ) → All (λ l. length l ≤ n) ls → length (unwrap_or (slice_get ls k) []) ≤ n
+nth_short : (n : ℕ) (ls : List (List ℕ)) (k : ℕ) → AllByRecursion (λ l. length l ≤ n) ls → length (unwrap_or (slice_get ls k) []) ≤ n
 nth_short n [] k h = omega arith
 nth_short n (l ∷ ls) zero h = h.0
 nth_short n (l ∷ ls) (suc k) h = nth_short n ls k h.1

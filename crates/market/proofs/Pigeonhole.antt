@@ -1,7 +1,7 @@
 -- Different numbers in a range: there are no more of them than the range has, and as many as it has are all of them. Assumes nothing.
 use Rattle.std.proofs.Common.{◌≡◌, ℕ, zero, suc, ◌≤◌, true, false, cond, eqb, List, [], ◌∷◌, ◌++◌, length, Some, sym, refl, ap, subst, inl, inr, arith}
 use Rattle.std.proofs.lemmas.Bool.{cases_Bool, eqb-true, eqb-false}
-use Rattle.std.specs.List.{slice_get, AllByRecursion as All}
+use Rattle.std.specs.List.{slice_get, AllByRecursion}
 use Rattle.market.specs.Distinct.{Absent, DistinctAfter, Distinct}
 
 -- No number stands again after itself: as `Distinct` says, but from the front.
@@ -9,11 +9,11 @@ abbrev pub Apart : List ℕ → Type 0
 Apart [] = Unit {0}
 Apart (x ∷ xs) = Absent x xs × Apart xs
 
-front : {X : Type 0} (P : X → Type 0) (xs ys : List X) → All P (xs ++ ys) → All P xs
+front : {X : Type 0} (P : X → Type 0) (xs ys : List X) → AllByRecursion P (xs ++ ys) → AllByRecursion P xs
 front P [] ys a = tt
 front P (x ∷ xs) ys a = (a.0, front P xs ys a.1)
 
-last : {X : Type 0} (P : X → Type 0) (xs : List X) (x : X) → All P (xs ++ x ∷ []) → P x
+last : {X : Type 0} (P : X → Type 0) (xs : List X) (x : X) → AllByRecursion P (xs ++ x ∷ []) → P x
 last P [] x a = a.0
 last P (y ∷ xs) x a = last P xs x a.1
 
@@ -31,7 +31,7 @@ pub apart : (xs : List ℕ) → Distinct xs → Apart xs
 apart xs d = apart_after xs [] d
 
 -- Numbers that differ from all seen ones, and from x, differ from all of these.
-seen_more : (xs seen : List ℕ) (x : ℕ) → All (λ y. Absent y seen) xs → Absent x xs → All (λ y. Absent y (seen ++ x ∷ [])) xs
+seen_more : (xs seen : List ℕ) (x : ℕ) → AllByRecursion (λ y. Absent y seen) xs → Absent x xs → AllByRecursion (λ y. Absent y (seen ++ x ∷ [])) xs
 seen_more [] seen x a d = tt
 seen_more (y ∷ xs) seen x a d = (both seen a.0, seen_more xs seen x a.1 d.1)
   where
@@ -39,7 +39,7 @@ seen_more (y ∷ xs) seen x a d = (both seen a.0, seen_more xs seen x a.1 d.1)
     both [] b = (λ e. d.0 (sym e), tt)
     both (z ∷ seen) b = (b.0, both seen b.1)
 
-distinct_after : (xs seen : List ℕ) → All (λ y. Absent y seen) xs → Apart xs → DistinctAfter seen xs
+distinct_after : (xs seen : List ℕ) → AllByRecursion (λ y. Absent y seen) xs → Apart xs → DistinctAfter seen xs
 distinct_after [] seen a d = tt
 distinct_after (x ∷ xs) seen a d = (a.0, distinct_after xs (seen ++ x ∷ []) (seen_more xs seen x a.1 d.0) d.1)
 
@@ -47,7 +47,7 @@ distinct_after (x ∷ xs) seen a d = (a.0, distinct_after xs (seen ++ x ∷ []) 
 pub distinct : (xs : List ℕ) → Apart xs → Distinct xs
 distinct xs d = distinct_after xs [] (none xs) d
   where
-    none : (xs : List ℕ) → All (λ y. Absent y []) xs
+    none : (xs : List ℕ) → AllByRecursion (λ y. Absent y []) xs
     none [] = tt
     none (x ∷ xs) = (tt, none xs)
 
@@ -83,7 +83,7 @@ one_out v (x ∷ xs) a =
       | inr e ↦ rw e (let rest = one_out v xs a.1 in omega arith)
     ]
 
-below_without : (n : ℕ) (xs : List ℕ) → All (UpTo (suc n)) xs → All (UpTo n) (without (suc n) xs)
+below_without : (n : ℕ) (xs : List ℕ) → AllByRecursion (UpTo (suc n)) xs → AllByRecursion (UpTo n) (without (suc n) xs)
 below_without n [] a = tt
 below_without n (x ∷ xs) a =
     elim (cases_Bool (eqb x (suc n))) [
@@ -92,7 +92,7 @@ below_without n (x ∷ xs) a =
     ]
 
 -- There are no more different numbers from 1 to n than n.
-pub no_more : (n : ℕ) (xs : List ℕ) → Apart xs → All (UpTo n) xs → length xs ≤ n
+pub no_more : (n : ℕ) (xs : List ℕ) → Apart xs → AllByRecursion (UpTo n) xs → length xs ≤ n
 no_more zero [] a u = omega arith
 no_more zero (x ∷ xs) a u = omega (arith, u.0.0, u.0.1)
 no_more (suc n) xs a u =
@@ -108,5 +108,5 @@ somewhere x (y ∷ xs) h =
     ]
 
 -- Of n different numbers from 1 to n, each number from 1 to n is one.
-pub each_there : (n : ℕ) (xs : List ℕ) → Distinct xs → All (UpTo n) xs → length xs ≡ n → (x : ℕ) → UpTo n x → (i : ℕ) × (slice_get xs i ≡ Some x)
+pub each_there : (n : ℕ) (xs : List ℕ) → Distinct xs → AllByRecursion (UpTo n) xs → length xs ≡ n → (x : ℕ) → UpTo n x → (i : ℕ) × (slice_get xs i ≡ Some x)
 each_there n xs d u size x h = somewhere x xs (λ a. omega (arith, no_more n (x ∷ xs) (a, apart xs d) (h, u), size))

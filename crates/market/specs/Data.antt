@@ -1,6 +1,6 @@
 -- What rules are made of: orders of agents, the nodes of trees, and tenants; and when they are right for n agents and m places.
 use Rattle.std.specs.Prelude.{◌≡◌, ℕ, zero, suc, ◌≤◌, List, [], ◌∷◌, ◌++◌, map, length, Some, ◌≢◌}
-use Rattle.std.specs.List.{slice_get, AllByRecursion as All}
+use Rattle.std.specs.List.{slice_get, AllByRecursion}
 use Rattle.market.specs.declared.agent.Agent.{Agent}
 use Rattle.market.specs.declared.node.Node.{Node}
 use Rattle.market.specs.declared.place.Place.{Place}
@@ -19,12 +19,12 @@ place_numbers places = map (λ p. p.number) places
 -- An order of all n agents: n entries, each one of the agents 1 to n, none twice.
 pub record OrderOf (n : ℕ) (order : List Agent) : Type 0 where
   pub size : length order ≡ n
-  pub known : All (AgentIn n) order
+  pub known : AllByRecursion (AgentIn n) order
   pub once : Distinct (agent_numbers order)
 
 -- A ranking of some of the m places: none twice.
 pub record RankingOf (m : ℕ) (ranking : List Place) : Type 0 where
-  pub known : All (PlaceIn m) ranking
+  pub known : AllByRecursion (PlaceIn m) ranking
   pub once : Distinct (place_numbers ranking)
 
 -- The parent r is 0, with took number 0, or the number of an earlier node of the place p.
@@ -34,7 +34,7 @@ ParentRight nodes p (suc r) t = (a : Node) × (slice_get nodes r ≡ Some a) × 
 
 -- No earlier node has the place p, the parent r and the took number t.
 abbrev pub Unlike : List Node → ℕ → ℕ → ℕ → Type 0
-Unlike nodes p r t = All (λ a. a.place.number ≡ p → a.parent ≡ r → a.took ≢ t) nodes
+Unlike nodes p r t = AllByRecursion (λ a. a.place.number ≡ p → a.parent ≡ r → a.took ≢ t) nodes
 
 -- A node is right after the earlier ones: its place, took number and heir are in range, its parent is right, and none of the earlier is like it.
 pub record NodeRight (n m : ℕ) (earlier : List Node) (a : Node) : Type 0 where
@@ -60,6 +60,6 @@ tenant_places tenants = map (λ t. t.place.number) tenants
 
 -- Tenants: each place and each agent is in range, and a place has at most one tenant.
 pub record TenantsOf (n m : ℕ) (tenants : List Tenant) : Type 0 where
-  pub places : All (λ t. PlaceIn m t.place) tenants
-  pub agents : All (λ t. AgentIn n t.agent) tenants
+  pub places : AllByRecursion (λ t. PlaceIn m t.place) tenants
+  pub agents : AllByRecursion (λ t. AgentIn n t.agent) tenants
   pub once : Distinct (tenant_places tenants)

@@ -1,10 +1,10 @@
 -- Numbers of which none stands twice.
-use Rattle.std.specs.Prelude.{◌≡◌, ℕ, List, [], ◌∷◌, ◌++◌, ◌≢◌}
-use Rattle.std.specs.List.{AllByRecursion as All}
+use Rattle.std.specs.Prelude.{ℕ, List, [], ◌∷◌, ◌++◌, ◌≢◌}
+use Rattle.std.specs.List.{AllByRecursion}
 
 -- A number is none of a list.
 abbrev pub Absent : ℕ → List ℕ → Type 0
-Absent x ys = All (λ y. y ≢ x) ys
+Absent x ys = AllByRecursion (λ y. y ≢ x) ys
 
 -- Each number differs from all before it: seen are those before the list.
 abbrev pub DistinctAfter : List ℕ → List ℕ → Type 0

@@ -7,7 +7,7 @@ use Rattle.market_lines.specs.declared.fault.LineFault.{LineFault}
 use Rattle.market_lines.specs.declared.fault.MarketFault.{MarketFault}
 use Rattle.market_lines.specs.declared.fault.MarketFault.TheVariants as fault
 use Rattle.market_lines.specs.declared.kind.Kind.TheVariants as kind
-use Rattle.market_lines.specs.Records.{Read, whole}
+use Rattle.market_lines.specs.Records.{Read}
 use Rattle.market_file.specs.declared.form.Contents.{Contents}
 use Rattle.market_file.specs.declared.form.Form.{Form}
 use Rattle.market_file.specs.declared.form.Sizes.{Sizes}

@@ -2,7 +2,7 @@
 use Rattle.std.proofs.Common.{◌≡◌, ℕ, ◌≤◌, cond, eqb, List, [], ◌∷◌, length, replicate, sym, refl, ap, ◌∙◌, inl, inr, arith}
 use Rattle.std.proofs.ByRecursion.{All-weaker}
 use Rattle.std.proofs.lemmas.Bool.{cases_Bool, eqb-true, eqb-false}
-use Rattle.std.specs.List.{AllByRecursion as All}
+use Rattle.std.specs.List.{AllByRecursion}
 use Rattle.market.proofs.Pigeonhole.{UpTo}
 use Rattle.market_lines.specs.declared.kind.Kind.{Kind}
 use Rattle.market_lines.specs.declared.kind.Kind.TheVariants as kind
@@ -37,7 +37,7 @@ only_one (x ∷ []) e = (x, refl)
 only_one (x ∷ y ∷ xs) e = absurd (omega arith)
 
 module _ (f : Form) (ls : List (List ℕ)) (es : List Entry) (right : RightContents f.sizes f.contents) (each : Records f.sizes (kinds_of f.contents) ls es) (named : Rightly blank es) where
-  pub about_each : (k : Kind) → 1 ≤ least_words k f.sizes → 1 ≤ lowest k 1 → All (λ ns. UpTo (highest k f.sizes 1) (about ns)) (of_kind k es)
+  pub about_each : (k : Kind) → 1 ≤ least_words k f.sizes → 1 ≤ lowest k 1 → AllByRecursion (λ ns. UpTo (highest k f.sizes 1) (about ns)) (of_kind k es)
   about_each k some low =
       All-weaker (Fits f.sizes k) (λ ns. UpTo (highest k f.sizes 1) (about ns)) (λ ns. about_range k f.sizes ns some low) (of_kind k es) (fits_each f.sizes (kinds_of f.contents) ls es k each)
 

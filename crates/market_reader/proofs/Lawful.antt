@@ -1,6 +1,6 @@
 -- What the reading of a file means. Assumes nothing.
 use Rattle.std.proofs.Common.{◌≡◌, ℕ, ◌≤◌, List, length, drop, Ok, Err, Result, sym, refl, ap, ◌∙◌, subst, arith}
-use Rattle.std.specs.List.{AllByRecursion as All}
+use Rattle.std.specs.List.{AllByRecursion}
 use Rattle.spelling.specs.Lines.{lines}
 use Rattle.market_lines.specs.declared.fault.MarketFault.{MarketFault}
 use Rattle.market_file.specs.declared.form.Form.{Form}
@@ -30,7 +30,7 @@ module _ (ls : List (List ℕ)) (f : Form) (k : KeepsForm ls f) where
   sections_kept : Sections f.sizes blank (kinds_of f.contents) (drop 2 ls)
   sections_kept = subst (Sections f.sizes blank (kinds_of f.contents)) (sym (ap (drop 2) k.parts)) k.sections
 
-  pub few_kept : All (λ l. length (numbers_at l) ≤ 201) (drop 2 ls)
+  pub few_kept : AllByRecursion (λ l. length (numbers_at l) ≤ 201) (drop 2 ls)
   few_kept = few_each f.sizes blank (kinds_of f.contents) (drop 2 ls) agents_bound.1 places_bound.1 sections_kept
 
   each_kept : Records f.sizes (kinds_of f.contents) (drop 2 ls) (entries_of (kinds_of f.contents) (drop 2 ls))

@@ -1,7 +1,7 @@
 -- The records of lines that are the sections of a form. Assumes nothing.
 use Rattle.std.proofs.Common.{◌≡◌, ℕ, zero, suc, ◌+◌, ◌≤◌, true, false, cond, eqb, List, [], ◌∷◌, ◌++◌, length, replicate, sym, refl, ap, ◌∙◌, subst, inl, inr, arith}
 use Rattle.std.proofs.lemmas.Bool.{cases_Bool, eqb-true}
-use Rattle.std.specs.List.{AllByRecursion as All}
+use Rattle.std.specs.List.{AllByRecursion}
 use Rattle.market_lines.specs.declared.kind.Kind.{Kind}
 use Rattle.market_lines.specs.declared.kind.Kind.TheVariants as kind
 use Rattle.market_lines.specs.Kinds.{letter_of}
@@ -25,7 +25,7 @@ formed_numbers z k ns l f = numbers_at_line k z l (whole k l ns) ((line_by_form 
 
 -- ---- lines and records
 
-pub few_each : (z : Sizes) (d : Known) (ks : List Kind) (ls : List (List ℕ)) → z.agents ≤ 200 → z.places ≤ 40 → Sections z d ks ls → All (λ l. length (numbers_at l) ≤ 201) ls
+pub few_each : (z : Sizes) (d : Known) (ks : List Kind) (ls : List (List ℕ)) → z.agents ≤ 200 → z.places ≤ 40 → Sections z d ks ls → AllByRecursion (λ l. length (numbers_at l) ≤ 201) ls
 few_each z d [] [] n m s = tt
 few_each z d [] (l ∷ ls) n m s = absurd s
 few_each z d (k ∷ ks) [] n m s = tt
@@ -60,7 +60,7 @@ pub is_kind : (a k : Kind) → eqb (letter_of a) (letter_of k) ≡ true → a �
 is_kind a k e = same_letter a k (eqb-true (letter_of a) (letter_of k) e)
 
 -- What holds of each record of a kind.
-pub of_kind_all : (k : Kind) (P : List ℕ → Type 0) (es : List Entry) → All (λ e. e.kind ≡ k → P e.numbers) es → All P (of_kind k es)
+pub of_kind_all : (k : Kind) (P : List ℕ → Type 0) (es : List Entry) → AllByRecursion (λ e. e.kind ≡ k → P e.numbers) es → AllByRecursion P (of_kind k es)
 of_kind_all k P [] a = tt
 of_kind_all k P (e ∷ es) a =
     elim (cases_Bool (eqb (letter_of e.kind) (letter_of k))) [
@@ -72,7 +72,7 @@ of_kind_all k P (e ∷ es) a =
 abbrev pub Fits : Sizes → Kind → List ℕ → Type 0
 Fits z k ns = CountRight k z (length ns) × InRange k z 1 ns
 
-pub fits_entries : (z : Sizes) (ks : List Kind) (ls : List (List ℕ)) (es : List Entry) (k : Kind) → Records z ks ls es → All (λ e. e.kind ≡ k → Fits z k e.numbers) es
+pub fits_entries : (z : Sizes) (ks : List Kind) (ls : List (List ℕ)) (es : List Entry) (k : Kind) → Records z ks ls es → AllByRecursion (λ e. e.kind ≡ k → Fits z k e.numbers) es
 fits_entries z ks ls [] k r = tt
 fits_entries z [] [] (e ∷ es) k r = absurd r
 fits_entries z [] (l ∷ ls) (e ∷ es) k r = absurd r
@@ -80,7 +80,7 @@ fits_entries z (j ∷ ks) [] (e ∷ es) k r = absurd r
 fits_entries z (j ∷ ks) (l ∷ ls) (e ∷ es) k r =
     (λ same. subst (λ x. Fits z x e.numbers) (sym r.0 ∙ same) (r.1.count, r.1.ranges), fits_entries z ks ls es k r.2)
 
-pub fits_each : (z : Sizes) (ks : List Kind) (ls : List (List ℕ)) (es : List Entry) (k : Kind) → Records z ks ls es → All (Fits z k) (of_kind k es)
+pub fits_each : (z : Sizes) (ks : List Kind) (ls : List (List ℕ)) (es : List Entry) (k : Kind) → Records z ks ls es → AllByRecursion (Fits z k) (of_kind k es)
 fits_each z ks ls es k r = of_kind_all k (Fits z k) es (fits_entries z ks ls es k r)
 
 -- How many of the kinds are this one.

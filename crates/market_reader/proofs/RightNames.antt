@@ -1,7 +1,7 @@
 -- What records name, one after another. Assumes nothing.
 use Rattle.std.proofs.Common.{◌≡◌, ℕ, Bool, true, false, cond, eqb, List, [], ◌∷◌, ◌++◌, map, sym, refl, ap, ◌∙◌, subst, inl, inr, append-nil, arith}
 use Rattle.std.proofs.lemmas.Bool.{cases_Bool, both_ways, false≢true}
-use Rattle.std.specs.List.{AllByRecursion as All}
+use Rattle.std.specs.List.{AllByRecursion}
 use Rattle.market.specs.declared.node.Node.{Node}
 use Rattle.market.specs.Data.{NodeRight, NodesRightAfter}
 use Rattle.market.specs.Distinct.{Absent, DistinctAfter}
@@ -33,10 +33,10 @@ rightly_each z d (k ∷ ks) (l ∷ ls) s =
     )
 
 -- What follows for each record of a kind from its naming nothing wrongly.
-pub named_each : (k : Kind) (P : List ℕ → Type 0) → ((names : List Name) (nodes : List Node) (ns : List ℕ) → NamesRightly names nodes k ns → P ns) → (d : Known) (es : List Entry) → Rightly d es → All P (of_kind k es)
+pub named_each : (k : Kind) (P : List ℕ → Type 0) → ((names : List Name) (nodes : List Node) (ns : List ℕ) → NamesRightly names nodes k ns → P ns) → (d : Known) (es : List Entry) → Rightly d es → AllByRecursion P (of_kind k es)
 named_each k P one d es r = of_kind_all k P es (go d es r)
   where
-    go : (d : Known) (es : List Entry) → Rightly d es → All (λ e. e.kind ≡ k → P e.numbers) es
+    go : (d : Known) (es : List Entry) → Rightly d es → AllByRecursion (λ e. e.kind ≡ k → P e.numbers) es
     go d [] r = tt
     go d (e ∷ es) r = (λ same. one d.names d.nodes e.numbers (subst (λ x. NamesRightly d.names d.nodes x e.numbers) same r.0), go (noted e.kind e.numbers d) es r.1)
 
@@ -141,7 +141,7 @@ nodes_kept kind.Tenant ns d h = refl
 nodes_kept kind.Ranking ns d h = refl
 
 -- The nodes of H lines are right one after another.
-pub nodes_right : (z : Sizes) (d : Known) (es : List Entry) → Rightly d es → All (λ e. e.kind ≡ kind.Heir → Fits z kind.Heir e.numbers) es → NodesRightAfter z.agents z.places d.nodes (map node_in (of_kind kind.Heir es))
+pub nodes_right : (z : Sizes) (d : Known) (es : List Entry) → Rightly d es → AllByRecursion (λ e. e.kind ≡ kind.Heir → Fits z kind.Heir e.numbers) es → NodesRightAfter z.agents z.places d.nodes (map node_in (of_kind kind.Heir es))
 nodes_right z d [] r f = tt
 nodes_right z d (e ∷ es) r f =
     let rest = nodes_right z (noted e.kind e.numbers d) es r.1 f.1 in

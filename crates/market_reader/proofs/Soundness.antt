@@ -4,7 +4,7 @@ use mathlib.Core.List.{map-map}
 use Rattle.std.proofs.ByRecursion.{All-weaker, All-map}
 use Rattle.std.proofs.lemmas.List.{length-map}
 use Rattle.std.proofs.lemmas.Bool.{cond-false, ne_eqb}
-use Rattle.std.specs.List.{AllByRecursion as All}
+use Rattle.std.specs.List.{AllByRecursion}
 use Rattle.market.specs.declared.agent.Agent.{Agent}
 use Rattle.market.specs.declared.place.Place.{Place}
 use Rattle.market.specs.declared.tenant.Tenant.{Tenant}
@@ -29,18 +29,18 @@ use Rattle.market_reader.proofs.Tables.{all_entries, all_told}
 
 -- ---- numbers as agents and places
 
--- All numbers of a line from place j on, where they count from 1 to n.
-all_range : (k : Kind) (z : Sizes) (n j : ℕ) (ns : List ℕ) → ((i : ℕ) → j ≤ i → (1 ≤ lowest k i) × (highest k z i ≤ n)) → InRange k z j ns → All (UpTo n) ns
+-- AllByRecursion numbers of a line from place j on, where they count from 1 to n.
+all_range : (k : Kind) (z : Sizes) (n j : ℕ) (ns : List ℕ) → ((i : ℕ) → j ≤ i → (1 ≤ lowest k i) × (highest k z i ≤ n)) → InRange k z j ns → AllByRecursion (UpTo n) ns
 all_range k z n j [] h r = tt
 all_range k z n j (x ∷ ns) h r =
     let here = h j (omega arith) in
     ((omega (arith, here.0, r.0), omega (arith, here.1, r.1)), all_range k z n (suc j) ns (λ i l. h i (omega arith)) r.2)
 
-agents_in_range : (n : ℕ) (ns : List ℕ) → All (UpTo n) ns → All (AgentIn n) (agents_in ns)
+agents_in_range : (n : ℕ) (ns : List ℕ) → AllByRecursion (UpTo n) ns → AllByRecursion (AgentIn n) (agents_in ns)
 agents_in_range n [] a = tt
 agents_in_range n (x ∷ ns) a = (record { from_one = a.0.0; in_range = a.0.1 }, agents_in_range n ns a.1)
 
-places_in_range : (m : ℕ) (ns : List ℕ) → All (UpTo m) ns → All (PlaceIn m) (places_in ns)
+places_in_range : (m : ℕ) (ns : List ℕ) → AllByRecursion (UpTo m) ns → AllByRecursion (PlaceIn m) (places_in ns)
 places_in_range m [] a = tt
 places_in_range m (x ∷ ns) a = (record { from_one = a.0.0; in_range = a.0.1 }, places_in_range m ns a.1)
 
@@ -50,7 +50,7 @@ numbers_of_agents ns = map-map (λ (a : Agent). a.number) (λ n. record { number
 numbers_of_places : (ns : List ℕ) → place_numbers (places_in ns) ≡ ns
 numbers_of_places ns = map-map (λ (p : Place). p.number) (λ n. record { number = n }) ns ∙ map-id ns
 
-order_of : (n : ℕ) (ns : List ℕ) → length ns ≡ n → All (UpTo n) ns → Distinct ns → OrderOf n (agents_in ns)
+order_of : (n : ℕ) (ns : List ℕ) → length ns ≡ n → AllByRecursion (UpTo n) ns → Distinct ns → OrderOf n (agents_in ns)
 order_of n ns size range once = record {
   size = length-map ns (λ x. record { number = x }) ∙ size;
   known = agents_in_range n ns range;
@@ -94,20 +94,20 @@ tenant_agent z (p ∷ []) f = absurd (omega (arith, f.0.0))
 tenant_agent z (p ∷ a ∷ ns) f = record { from_one = f.1.2.0; in_range = f.1.2.1 }
 
 -- Two facts of each element, and what follows of each from both.
-all_both : {X : Type 0} (P Q R : X → Type 0) → ((x : X) → P x → Q x → R x) → (xs : List X) → All P xs → All Q xs → All R xs
+all_both : {X : Type 0} (P Q R : X → Type 0) → ((x : X) → P x → Q x → R x) → (xs : List X) → AllByRecursion P xs → AllByRecursion Q xs → AllByRecursion R xs
 all_both P Q R one [] p q = tt
 all_both P Q R one (x ∷ xs) p q = (one x p.0 q.0, all_both P Q R one xs p.1 q.1)
 
 -- ---- the market
 
 module _ (f : Form) (ls : List (List ℕ)) (es : List Entry) (h : Held) (right : RightContents f.sizes f.contents) (each : Records f.sizes (kinds_of f.contents) ls es) (named : Rightly blank es) (holds : Holds f es h) where
-  fits : (k : Kind) → All (Fits f.sizes k) (of_kind k es)
+  fits : (k : Kind) → AllByRecursion (Fits f.sizes k) (of_kind k es)
   fits k = fits_each f.sizes (kinds_of f.contents) ls es k each
 
   many : (k : Kind) → length (of_kind k es) ≡ said k f.contents
   many k = as_many f.sizes f.contents ls es k each
 
-  capacities_right : All (λ c. (1 ≤ c) × (c ≤ 200)) h.capacities
+  capacities_right : AllByRecursion (λ c. (1 ≤ c) × (c ≤ 200)) h.capacities
   capacities_right =
       all_told (λ c. (1 ≤ c) × (c ≤ 200)) capacity_in 0 f.sizes.places (of_kind kind.Seats es) h.capacities holds.capacities
       (about_different kind.Seats refl blank es named) (about_each f ls es right each named kind.Seats (omega arith) (omega arith))
@@ -124,7 +124,7 @@ module _ (f : Form) (ls : List (List ℕ)) (es : List Entry) (h : Held) (right :
   orders_right : (o : Orders) → OrdersHeld f.sizes.places es o → OrdersRight f.sizes.agents f.sizes.places o
   orders_right o (inl q) =
       let both = all_both (Fits f.sizes kind.Queue) Distinct (λ ns. OrderOf f.sizes.agents (agents_in ns)) (queue_right f.sizes) (of_kind kind.Queue es) (fits kind.Queue) (named_each kind.Queue Distinct (λ names nodes ns r. r) blank es named) in
-      subst (OrdersRight f.sizes.agents f.sizes.places) (sym q.2) (subst (All (λ ns. OrderOf f.sizes.agents (agents_in ns))) q.1 both).0
+      subst (OrdersRight f.sizes.agents f.sizes.places) (sym q.2) (subst (AllByRecursion (λ ns. OrderOf f.sizes.agents (agents_in ns))) q.1 both).0
   orders_right o (inr p) =
       let both = all_both (Fits f.sizes kind.Priorities) (λ ns. Distinct (drop 1 ns)) (λ ns. OrderOf f.sizes.agents (order_in ns)) (priorities_right f.sizes) (of_kind kind.Priorities es) (fits kind.Priorities) (named_each kind.Priorities (λ ns. Distinct (drop 1 ns)) (λ names nodes ns r. r.1) blank es named) in
       subst (OrdersRight f.sizes.agents f.sizes.places) (sym p.1.1) (
@@ -147,7 +147,7 @@ module _ (f : Form) (ls : List (List ℕ)) (es : List Entry) (h : Held) (right :
     once = subst Distinct (sym (map-map (λ (t : Tenant). t.place.number) tenant_in (of_kind kind.Tenant es))) (about_different kind.Tenant refl blank es named);
   }
 
-  rankings_right : All (RankingOf f.sizes.places) h.rankings
+  rankings_right : AllByRecursion (RankingOf f.sizes.places) h.rankings
   rankings_right =
       all_entries (RankingOf f.sizes.places) ranking_in [] f.sizes.agents (of_kind kind.Ranking es) h.rankings holds.rankings
       (all_both (Fits f.sizes kind.Ranking) (λ ns. Distinct (drop 1 ns)) (λ ns. RankingOf f.sizes.places (ranking_in ns)) (ranking_right f.sizes) (of_kind kind.Ranking es) (fits kind.Ranking) (named_each kind.Ranking (λ ns. Distinct (drop 1 ns)) (λ names nodes ns r. r.1) blank es named))

@@ -2,7 +2,7 @@
 use Rattle.std.proofs.Common.{◌≡◌, ℕ, zero, suc, ◌<◌, eqb, ◌⊎◌, List, [], ◌∷◌, map, length, set, replicate, Some, None, sym, refl, ap, ◌∙◌, subst, inl, inr, arith, length-set}
 use Rattle.std.proofs.lemmas.List.{length-map, length-replicate}
 use Rattle.std.proofs.lemmas.Bool.{cases_Bool, eqb-true, eqb-false}
-use Rattle.std.specs.List.{slice_get, AllByRecursion as All}
+use Rattle.std.specs.List.{slice_get, AllByRecursion}
 use Rattle.market.specs.Distinct.{Absent, Distinct}
 use Rattle.market.proofs.Pigeonhole.{Apart, UpTo, apart, each_there}
 use Rattle.market_reader.specs.Tables.{set_at, about, filled, Among, NoneAbout, TableOf}
@@ -50,11 +50,11 @@ same_lists (x ∷ t) [] size h = absurd (omega arith)
 same_lists (x ∷ t) (y ∷ u) size h = let first : x ≡ y = h 0 x y refl refl in let rest : t ≡ u = same_lists t u (omega arith) (λ i. h (suc i)) in cc
 
 -- What holds of the element at each index holds of all.
-pub all_by_nth : {X : Type 0} (P : X → Type 0) (t : List X) → ((i : ℕ) (x : X) → slice_get t i ≡ Some x → P x) → All P t
+pub all_by_nth : {X : Type 0} (P : X → Type 0) (t : List X) → ((i : ℕ) (x : X) → slice_get t i ≡ Some x → P x) → AllByRecursion P t
 all_by_nth P [] h = tt
 all_by_nth P (x ∷ t) h = (h 0 x refl, all_by_nth P t (λ i. h (suc i)))
 
-pub nth_all : {X : Type 0} (P : X → Type 0) (t : List X) (i : ℕ) (x : X) → All P t → slice_get t i ≡ Some x → P x
+pub nth_all : {X : Type 0} (P : X → Type 0) (t : List X) (i : ℕ) (x : X) → AllByRecursion P t → slice_get t i ≡ Some x → P x
 nth_all P [] i x a e = none_some x e
 nth_all P (y ∷ t) zero x a e = subst P (some_same y x e) a.0
 nth_all P (y ∷ t) (suc i) x a e = nth_all P t i x a.1 e
@@ -108,7 +108,7 @@ find_about k (ns ∷ nss) =
     ]
 
 -- Records that are about different numbers fill a table.
-pub filled_table : {X : Type 0} (value : List ℕ → X) (default : X) (size : ℕ) (nss : List (List ℕ)) → Distinct (map about nss) → All (λ ns. UpTo size (about ns)) nss → TableOf value default size nss (filled value (replicate size default) nss)
+pub filled_table : {X : Type 0} (value : List ℕ → X) (default : X) (size : ℕ) (nss : List (List ℕ)) → Distinct (map about nss) → AllByRecursion (λ ns. UpTo size (about ns)) nss → TableOf value default size nss (filled value (replicate size default) nss)
 filled_table value default size nss once range = record {
   entries = length_filled value (replicate size default) nss ∙ length-replicate size default;
   told = told;
@@ -141,14 +141,14 @@ one_table {X = X} value default size nss t u a b = same_lists t u (a.entries ∙
         ]
 
 -- What holds of the values of all records, and of the default, holds of the entries.
-pub all_entries : {X : Type 0} (P : X → Type 0) (value : List ℕ → X) (default : X) (size : ℕ) (nss : List (List ℕ)) (t : List X) → TableOf value default size nss t → All (λ ns. P (value ns)) nss → P default → All P t
+pub all_entries : {X : Type 0} (P : X → Type 0) (value : List ℕ → X) (default : X) (size : ℕ) (nss : List (List ℕ)) (t : List X) → TableOf value default size nss t → AllByRecursion (λ ns. P (value ns)) nss → P default → AllByRecursion P t
 all_entries P value default size nss t a all d = all_by_nth P t (λ i x e. elim (a.said i x e) [ inl said ↦ subst P (sym said.3) (nth_all (λ ns. P (value ns)) nss said.1.0 said.0 all said.1.1) | inr none ↦ subst P (sym none.1) d ])
 
 -- Where there are as many records as entries, no default is left.
-pub all_told : {X : Type 0} (P : X → Type 0) (value : List ℕ → X) (default : X) (size : ℕ) (nss : List (List ℕ)) (t : List X) → TableOf value default size nss t → Distinct (map about nss) → All (λ ns. UpTo size (about ns)) nss → length nss ≡ size → All (λ ns. P (value ns)) nss → All P t
+pub all_told : {X : Type 0} (P : X → Type 0) (value : List ℕ → X) (default : X) (size : ℕ) (nss : List (List ℕ)) (t : List X) → TableOf value default size nss t → Distinct (map about nss) → AllByRecursion (λ ns. UpTo size (about ns)) nss → length nss ≡ size → AllByRecursion (λ ns. P (value ns)) nss → AllByRecursion P t
 all_told {X = X} P value default size nss t a once range count all = all_by_nth P t holds
   where
-    ranges : (nss : List (List ℕ)) → All (λ ns. UpTo size (about ns)) nss → All (UpTo size) (map about nss)
+    ranges : (nss : List (List ℕ)) → AllByRecursion (λ ns. UpTo size (about ns)) nss → AllByRecursion (UpTo size) (map about nss)
     ranges [] r = tt
     ranges (ns ∷ nss) r = (r.0, ranges nss r.1)
 

@@ -1,6 +1,6 @@
 -- What it means that a file keeps the format with a market.
 use Rattle.std.specs.Prelude.{◌≡◌, ℕ, ◌≤◌, ◌⊎◌, List, [], ◌∷◌, map, length, drop, Ok, Err, Result}
-use Rattle.std.specs.List.{AllByRecursion as All}
+use Rattle.std.specs.List.{AllByRecursion}
 use Rattle.spelling.specs.Lines.{lines, closed}
 use Rattle.market.specs.declared.agent.Agent.{Agent}
 use Rattle.market.specs.Data.{OrderOf, RankingOf, TreeOf, TenantsOf}
@@ -56,19 +56,19 @@ pub record KeepsFormat (file : List ℕ) (h : Held) : Type 0 where
 -- The orders are right for n agents and m places: a queue is an order of all agents, and so is each of the priorities, one for each place.
 abbrev pub OrdersRight : ℕ → ℕ → Orders → Type 0
 OrdersRight n m (queue q) = OrderOf n q
-OrdersRight n m (priorities t) = (length t ≡ m) × All (OrderOf n) t
+OrdersRight n m (priorities t) = (length t ≡ m) × AllByRecursion (OrderOf n) t
 
 -- What every market that a file says satisfies.
 pub record SoundMarket (h : Held) : Type 0 where
   pub agents : (1 ≤ h.agents) × (h.agents ≤ 200)
   pub places : (1 ≤ h.places) × (h.places ≤ 40)
   pub seats : length h.capacities ≡ h.places
-  pub capacities : All (λ c. (1 ≤ c) × (c ≤ 200)) h.capacities
+  pub capacities : AllByRecursion (λ c. (1 ≤ c) × (c ≤ 200)) h.capacities
   pub orders : OrdersRight h.agents h.places h.orders
   pub nodes : TreeOf h.agents h.places h.nodes
   pub tenants : TenantsOf h.agents h.places h.tenants
   pub ranked : length h.rankings ≡ h.agents
-  pub rankings : All (RankingOf h.places) h.rankings
+  pub rankings : AllByRecursion (RankingOf h.places) h.rankings
 
 -- A file is read as a market exactly when it keeps the format with that market, and with no other; the market is then sound. Otherwise the answer is the fault of its size, or else exactly the first at which its lines break the form. Two files of 1 to 65,535 bytes that differ only in whether their last line has its line feed are read alike.
 pub record MarketLaw (file : List ℕ) (r : Result Held MarketFault) : Type 0 where

@@ -1,6 +1,6 @@
 -- Tables: lists that are filled by numbers.
 use Rattle.std.specs.Prelude.{◌≡◌, ℕ, zero, suc, ◌⊎◌, List, [], ◌∷◌, length, Some, ◌≢◌, slice_index, slice_set}
-use Rattle.std.specs.List.{slice_get, AllByRecursion as All}
+use Rattle.std.specs.List.{slice_get, AllByRecursion}
 
 -- A list with another element at a number, counted from 1; the same list where it has no such place.
 abbrev pub set_at : {X : Type 0} → List X → ℕ → X → List X
@@ -22,7 +22,7 @@ Among records ns = (j : ℕ) × (slice_get records j ≡ Some ns)
 
 -- No record is about a number.
 abbrev pub NoneAbout : ℕ → List (List ℕ) → Type 0
-NoneAbout k records = All (λ ns. about ns ≢ k) records
+NoneAbout k records = AllByRecursion (λ ns. about ns ≢ k) records
 
 -- A table has so many entries, one for each number from 1: the value of the record that is about the number, and the default where no record is.
 pub record TableOf {X : Type 0} (value : List ℕ → X) (default : X) (size : ℕ) (records : List (List ℕ)) (t : List X) : Type 0 where

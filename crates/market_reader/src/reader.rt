@@ -1,6 +1,6 @@
 // The reader of market files.
 ghost use Rattle.std.specs.Prelude.{◌≡◌, ◌≤◌, length};
-ghost use Rattle.std.specs.List.{AllByRecursion as All};
+ghost use Rattle.std.specs.List.{AllByRecursion};
 ghost use Rattle.spelling.specs.Views.{lines_of};
 ghost use Rattle.market_file.specs.Contents.{kinds_of};
 ghost use Rattle.market_file.specs.Files.{numbers_at};
@@ -23,7 +23,7 @@ fn enter_all(market: &mut Market, contents: Contents, others: Lines<'_>)
     requires nodes { length (held market.old).nodes ≤ 0 }
     requires tenants { length (held market.old).tenants ≤ 0 }
     requires kinds { length (kinds_of contents) ≤ 621 }
-    requires few { All (λ l. length (numbers_at l) ≤ 201) (lines_of others) }
+    requires few { AllByRecursion (λ l. length (numbers_at l) ≤ 201) (lines_of others) }
     ensures { held market.new ≡ after (held market.old) (entries_of (kinds_of contents) (lines_of others.entry)) }
 {
     let mut passed = 0;

@@ -1,7 +1,7 @@
 -- What a line names wrongly, and what that means. Assumes nothing.
-use Rattle.std.proofs.Common.{◌≡◌, ℕ, zero, suc, ◌+◌, Bool, true, false, cond, not, ◌&&◌, eqb, ◌⊎◌, List, [], ◌∷◌, get_or, drop, Some, None, Option, sym, refl, ap, ◌∙◌, subst, inl, inr, arith}
+use Rattle.std.proofs.Common.{◌≡◌, ℕ, zero, suc, ◌+◌, Bool, true, false, cond, not, ◌&&◌, eqb, ◌⊎◌, List, [], ◌∷◌, get_or, drop, Some, None, Option, sym, refl, ap, ◌∙◌, inl, inr, arith}
 use Rattle.std.proofs.lemmas.Bool.{cases_Bool, eqb-true, eq-eqb, or_parts, or_from, and_parts, and_from, not-false, not_from_true, both_ways}
-use Rattle.std.specs.List.{slice_get, AllByRecursion as All}
+use Rattle.std.specs.List.{slice_get, AllByRecursion}
 use Rattle.market.specs.declared.node.Node.{Node}
 use Rattle.market_lines.specs.declared.kind.Kind.{Kind}
 use Rattle.market_lines.specs.declared.kind.Kind.TheVariants.{Market, Contents, Seats, Queue, Priorities, Heir, Tenant, Ranking}
@@ -10,8 +10,8 @@ use Rattle.market_lines.proofs.Lettering.{same_letter}
 use Rattle.naming.specs.declared.fault.Name.{Name}
 use Rattle.naming.specs.declared.fault.NameFault.{NameFault}
 use Rattle.naming.specs.declared.fault.NameFault.TheVariants.{Parent, Twice}
-use Rattle.naming.specs.Faults.{twice_from, node_fault, first_fault, name_fault}
-use Rattle.naming.specs.Laws.{Unnamed, Unlike, ParentRight, NamesRightly, NamedOrRepeated, NodeWrong, NamesWrongly, NamesLaw}
+use Rattle.naming.specs.Faults.{twice_from, first_fault, name_fault}
+use Rattle.naming.specs.Laws.{Unnamed, Unlike, ParentRight, NamedOrRepeated, NamesLaw}
 use Rattle.naming.specs.Names.{is_name, named_before, is_node, node_before, at_place, parent_fits}
 use Rattle.naming.specs.Repeats.{any_of, repeat_in, Distinct, LeftmostRepeat}
 use Rattle.naming.proofs.Repeating.{repeats_exactly}
@@ -19,11 +19,11 @@ use Rattle.naming.proofs.Repeating.{repeats_exactly}
 -- ---- searches, as statements
 
 -- No element passes a test exactly when each fails it.
-none_of : {X : Type 0} (p : X → Bool) (P : X → Type 0) → ((x : X) → p x ≡ false → P x) → (xs : List X) → any_of p xs ≡ false → All P xs
+none_of : {X : Type 0} (p : X → Bool) (P : X → Type 0) → ((x : X) → p x ≡ false → P x) → (xs : List X) → any_of p xs ≡ false → AllByRecursion P xs
 none_of p P one [] e = tt
 none_of p P one (x ∷ xs) e = let q = or_parts (p x) (any_of p xs) e in (one x q.0, none_of p P one xs q.1)
 
-of_none : {X : Type 0} (p : X → Bool) (P : X → Type 0) → ((x : X) → P x → p x ≡ false) → (xs : List X) → All P xs → any_of p xs ≡ false
+of_none : {X : Type 0} (p : X → Bool) (P : X → Type 0) → ((x : X) → P x → p x ≡ false) → (xs : List X) → AllByRecursion P xs → any_of p xs ≡ false
 of_none p P one [] a = refl
 of_none p P one (x ∷ xs) a = or_from (p x) (any_of p xs) (one x a.0) (of_none p P one xs a.1)
 

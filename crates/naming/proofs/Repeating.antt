@@ -1,9 +1,8 @@
 -- Numbers that repeat. Assumes nothing.
 use Rattle.std.proofs.Common.{◌≡◌, ℕ, suc, ◌+◌, ◌<◌, Bool, true, false, cond, ◌||◌, eqb, List, [], ◌∷◌, ◌++◌, length, get_or, take, drop, Some, None, Option, sym, refl, ap, ◌∙◌, subst, inl, inr, append_assoc, append-nil, add-one, arith}
 use Rattle.std.proofs.lemmas.List.{at_drop_more, take_more}
-use Rattle.std.proofs.lemmas.Bool.{cases_Bool, eqb-true, eqb-false, eq-eqb, ne_eqb, or_cases, or_parts, or_from, or_left, or_right, both_ways}
-use Rattle.std.specs.List.{AllByRecursion as All}
-use Rattle.naming.specs.Repeats.{any_of, has, repeat_after, repeat_in, Absent, DistinctAfter, Distinct, LeftmostRepeat, RepeatsExactly}
+use Rattle.std.proofs.lemmas.Bool.{cases_Bool, eqb-false, ne_eqb, or_parts, or_from, both_ways}
+use Rattle.naming.specs.Repeats.{any_of, has, repeat_after, repeat_in, Absent, DistinctAfter, RepeatsExactly}
 
 -- ---- a search from the left
 

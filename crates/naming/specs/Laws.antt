@@ -1,6 +1,6 @@
 -- What it means that a line names nothing wrongly, in the words of the format.
 use Rattle.std.specs.Prelude.{◌≡◌, ℕ, zero, suc, ◌+◌, ◌⊎◌, List, drop, Some, None, Option, ◌≢◌, slice_index}
-use Rattle.std.specs.List.{slice_get, AllByRecursion as All}
+use Rattle.std.specs.List.{slice_get, AllByRecursion}
 use Rattle.market.specs.declared.node.Node.{Node}
 use Rattle.market_lines.specs.declared.kind.Kind.{Kind}
 use Rattle.market_lines.specs.declared.kind.Kind.TheVariants.{Market, Contents, Seats, Queue, Priorities, Heir, Tenant, Ranking}
@@ -11,11 +11,11 @@ use Rattle.naming.specs.Repeats.{Distinct, LeftmostRepeat}
 
 -- No earlier line of kind k has the number x as its first word.
 abbrev pub Unnamed : List Name → Kind → ℕ → Type 0
-Unnamed names k x = All (λ a. a.kind ≡ k → a.number ≢ x) names
+Unnamed names k x = AllByRecursion (λ a. a.kind ≡ k → a.number ≢ x) names
 
 -- No earlier node has the place p, the parent r and the took number t.
 abbrev pub Unlike : List Node → ℕ → ℕ → ℕ → Type 0
-Unlike nodes p r t = All (λ a. a.place.number ≡ p → a.parent ≡ r → a.took ≢ t) nodes
+Unlike nodes p r t = AllByRecursion (λ a. a.place.number ≡ p → a.parent ≡ r → a.took ≢ t) nodes
 
 -- The parent r is 0, with took number 0, or the number of an earlier node of the place p.
 abbrev pub ParentRight : List Node → ℕ → ℕ → ℕ → Type 0

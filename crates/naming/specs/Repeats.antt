@@ -1,6 +1,6 @@
 -- Numbers that repeat within a list.
 use Rattle.std.specs.Prelude.{◌≡◌, ℕ, suc, Bool, false, cond, ◌||◌, List, [], ◌∷◌, ◌++◌, length, Some, None, Option, ◌≢◌, nat_eq}
-use Rattle.std.specs.List.{AllByRecursion as All}
+use Rattle.std.specs.List.{AllByRecursion}
 
 -- Some element of a list passes a test.
 abbrev pub any_of : {X : Type 0} → (X → Bool) → List X → Bool
@@ -22,7 +22,7 @@ repeat_in xs = repeat_after 0 [] xs
 
 -- A number is none of a list.
 abbrev pub Absent : ℕ → List ℕ → Type 0
-Absent x ys = All (λ y. y ≢ x) ys
+Absent x ys = AllByRecursion (λ y. y ≢ x) ys
 
 -- Each number differs from all before it: seen are those before the list.
 abbrev pub DistinctAfter : List ℕ → List ℕ → Type 0

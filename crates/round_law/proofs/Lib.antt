@@ -1,6 +1,7 @@
 pub mod Accepting
 pub mod Choosing
 pub mod Departing
+pub mod Digits
 pub mod Examples
 pub mod Filing
 pub mod Histories

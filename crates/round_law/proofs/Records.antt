@@ -16,7 +16,7 @@ use Rattle.trading.proofs.Cycles.{cycle_circles}
 use Rattle.trading.proofs.Rows.{departed_waits}
 use Rattle.trading.proofs.Runs.{run_exchanges, exchanges_later}
 use Rattle.round_law.specs.declared.member.Member.{Member}
-use Rattle.round_law.specs.Records.{FromLowest, OwnedBy, Goes_on, GoesThrough, LineOf, Lines, none, line, OnRecord}
+use Rattle.round_law.specs.Records.{FromLowest, OwnedBy, GoesOn, GoesThrough, LineOf, Lines, none, line, OnRecord}
 use Rattle.round_law.specs.States.{agents_of}
 use Rattle.round_law.specs.Steps.{members}
 
@@ -38,7 +38,7 @@ module _ (M : Economy) (R : Profile) (A : Row) where
   owned : (a b : Agent) → PointsTo M R A a b → OwnedBy M A (points_at M R A a) b
   owned a b h = subst (λ (x : Option Place). OwnedBy M A x b) (sym h.1) h.2
 
-  goes_on : (a : Agent) (c : List Agent) (z : Agent) → Chain M R A a c z → Goes_on M A (member a) (members M R A c)
+  goes_on : (a : Agent) (c : List Agent) (z : Agent) → Chain M R A a c z → GoesOn M A (member a) (members M R A c)
   goes_on a [] z h = tt
   goes_on a (b ∷ c) z h = (owned a b h.0, goes_on b c z h.1)
 
@@ -46,7 +46,7 @@ module _ (M : Economy) (R : Profile) (A : Row) where
   goes_through [] h = h
   goes_through (a ∷ c) h = elim h [
     | inl chain ↦ goes_on a c a chain
-    | inr alone ↦ subst (λ (x : List Agent). Goes_on M A (member a) (members M R A x)) (sym alone.0) tt
+    | inr alone ↦ subst (λ (x : List Agent). GoesOn M A (member a) (members M R A x)) (sym alone.0) tt
   ]
 
   -- A cycle from its lowest agent on makes a line.

@@ -1,6 +1,6 @@
 -- What a round takes and what it holds, in words.
 use Rattle.std.specs.Prelude.{◌≡◌, ℕ, ◌+◌, ◌≤◌, List, [], ◌∷◌, length, ◌≢◌}
-use Rattle.std.specs.List.{AllByRecursion as All}
+use Rattle.std.specs.List.{AllByRecursion}
 use Rattle.market.specs.declared.agent.Agent.{Agent}
 use Rattle.market.specs.Data.{RankingOf}
 use Rattle.market.specs.Rows.{Waits, NobodyWaits, AgentIn, Proper}
@@ -21,7 +21,7 @@ pub record MarketFor (T : Terms) (n : ℕ) (capacities : List ℕ) : Type 0 wher
   pub places : length capacities ≡ T.places
   pub some_places : 1 ≤ length capacities
   pub few_places : length capacities ≤ 40
-  pub seats : All (λ c. (1 ≤ c) × (c ≤ 200)) capacities
+  pub seats : AllByRecursion (λ c. (1 ≤ c) × (c ≤ 200)) capacities
 
 -- What FILE takes, in filing: an agent of the rule, and a ranking of some of its places.
 pub record Fileable (T : Terms) (s : State) (a : Agent) (r : Ranking) : Type 0 where
@@ -47,7 +47,7 @@ count_members (ms ∷ rest) = length ms + count_members rest
 pub record Contents (T : Terms) (s : State) : Type 0 where
   pub market : MarketFor T T.agents s.capacities
   pub agents : length s.rankings ≡ T.agents
-  pub rankings : All (RankingOf T.places) s.rankings
+  pub rankings : AllByRecursion (RankingOf T.places) s.rankings
   pub row : Proper T.agents T.places s.row
   pub within : WithinCapacities (economy_of T s) s.row
   pub members : count_members s.cycles + waiters s.row ≡ T.agents

@@ -1,6 +1,6 @@
 -- Records: how the cycles on record led to the row of a round.
 use Rattle.std.specs.Prelude.{◌≡◌, ◌≤◌, true, ◌⊎◌, List, [], ◌∷◌, map, Some, None, Option}
-use Rattle.std.specs.List.{AllByRecursion as All}
+use Rattle.std.specs.List.{AllByRecursion}
 use Rattle.market.specs.declared.agent.Agent.{Agent}
 use Rattle.market.specs.declared.place.Place.{Place}
 use Rattle.market.specs.Rows.{Row, Waits, AgentIn, standing}
@@ -15,7 +15,7 @@ use Rattle.round_law.specs.States.{State, agents_of}
 -- A list of agents begins with its lowest.
 abbrev pub FromLowest : List Agent → Type 0
 FromLowest [] = ⊥
-FromLowest (a ∷ c) = All (λ b. a.number ≤ b.number) c
+FromLowest (a ∷ c) = AllByRecursion (λ b. a.number ≤ b.number) c
 
 -- A seat is a place that the agent b owns.
 abbrev pub OwnedBy : Economy → Row → Option Place → Agent → Type 0
@@ -23,20 +23,20 @@ OwnedBy M A None b = ⊥
 OwnedBy M A (Some p) b = M.owner A p ≡ b
 
 -- From a member on each next one owned the place just taken.
-abbrev pub Goes_on : Economy → Row → Member → List Member → Type 0
-Goes_on M A m [] = Unit {0}
-Goes_on M A m (k ∷ ms) = OwnedBy M A m.place k.agent × Goes_on M A k ms
+abbrev pub GoesOn : Economy → Row → Member → List Member → Type 0
+GoesOn M A m [] = Unit {0}
+GoesOn M A m (k ∷ ms) = OwnedBy M A m.place k.agent × GoesOn M A k ms
 
 -- A line goes on to the owner of the place just taken, through the whole of it.
 abbrev pub GoesThrough : Economy → Row → List Member → Type 0
 GoesThrough M A [] = ⊥
-GoesThrough M A (m ∷ ms) = Goes_on M A m ms
+GoesThrough M A (m ∷ ms) = GoesOn M A m ms
 
 -- A line of the record, where it is the row A that trades: a cycle from its lowest agent on, each member with what it points at, and after each the owner of the place just taken.
 pub record LineOf (M : Economy) (R : Profile) (A : Row) (ms : List Member) : Type 0 where
   pub cycle : Cycle M R A (agents_of ms)
   pub from_lowest : FromLowest (agents_of ms)
-  pub took : All (λ m. m.place ≡ points_at M R A m.agent) ms
+  pub took : AllByRecursion (λ m. m.place ≡ points_at M R A m.agent) ms
   pub through : GoesThrough M A ms
 
 -- Lines of the record that lead from one row to another, each one of the row that the cycles before it have left.
@@ -53,5 +53,5 @@ OnRecord (ms ∷ rest) a = (among (agents_of ms) a ≡ true) ⊎ OnRecord rest a
 pub record Recorded (M : Economy) (R : Profile) (s : State) : Type 0 where
   pub lines : Lines M R (all_waiting M.agents) s.cycles s.row
   pub run : Run M R (all_waiting M.agents) (map agents_of s.cycles) s.row
-  pub seats : All (All (λ m. standing s.row m.agent ≡ departed m.place)) s.cycles
+  pub seats : AllByRecursion (AllByRecursion (λ m. standing s.row m.agent ≡ departed m.place)) s.cycles
   pub everybody : (a : Agent) → AgentIn M.agents a → (Waits s.row a → ⊥) → OnRecord s.cycles a

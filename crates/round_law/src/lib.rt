@@ -114,6 +114,7 @@ pub fn answers_compute()
 {}
 
 /// What the worked round has on record, and that its audit does not fit a buffer of one byte less.
+#[tactic(auto, unfolding(crate::proofs::Digits::digits))]
 pub fn record_computes()
     ensures waiting { listing_text (after four closing) ≡ codes "1 -\n2 -\n3 -\n4 -\n" }
     ensures listing { listing_text (after four finishing) ≡ codes "1 2\n2 3\n3 1\n4 0\n" }

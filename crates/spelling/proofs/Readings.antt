@@ -3,7 +3,7 @@ use Rattle.std.proofs.Common.{◌≡◌, ℕ, suc, ◌+◌, ◌≤◌, true, fal
 use Rattle.std.proofs.ByRecursion.{All-weaker}
 use Rattle.std.proofs.lemmas.List.{length-map}
 use Rattle.std.proofs.lemmas.Bool.{cases_Bool, eqb-true, eqb-false, eq-eqb, ne_eqb}
-use Rattle.std.specs.List.{AllByRecursion as All}
+use Rattle.std.specs.List.{AllByRecursion}
 use Rattle.spelling.specs.Cuts.{until, since, afters, none}
 use Rattle.spelling.specs.Grammar.{Digit, Word, Spelled, Ends, Small, spell}
 use Rattle.spelling.specs.Reading.{unless, words_read}
@@ -69,7 +69,7 @@ few_numbers bs =
 
 -- Bytes without a space.
 abbrev pub Unspaced : List ℕ → Type 0
-Unspaced bs = All (λ b. b ≡ 32 → ⊥) bs
+Unspaced bs = AllByRecursion (λ b. b ≡ 32 → ⊥) bs
 
 -- Words written one after another, each after a space.
 abbrev pub spaced : List (List ℕ) → List ℕ
@@ -101,7 +101,7 @@ until_unspaced (b ∷ bs) =
       | inr e ↦ rw e (eqb-false b 32 e, until_unspaced bs)
     ]
 
-pub afters_unspaced : (bs : List ℕ) → All Unspaced (afters 32 bs)
+pub afters_unspaced : (bs : List ℕ) → AllByRecursion Unspaced (afters 32 bs)
 afters_unspaced [] = tt
 afters_unspaced (b ∷ bs) =
     elim (cases_Bool (eqb b 32)) [

@@ -1,7 +1,7 @@
 -- The lines of a file, written again, are the file. Assumes nothing.
 use Rattle.std.proofs.Common.{◌≡◌, ℕ, ◌<◌, cond, eqb, List, [], ◌∷◌, ◌++◌, length, sym, refl, ap, ◌∙◌, inl, inr, arith}
 use Rattle.std.proofs.lemmas.Bool.{cases_Bool, eqb-true, eqb-false, ne_eqb}
-use Rattle.std.specs.List.{AllByRecursion as All}
+use Rattle.std.specs.List.{AllByRecursion}
 use Rattle.spelling.specs.Lines.{onto, lines, fed, Unfed, closed, Rejoins}
 use Rattle.spelling.proofs.Filing.{lines_step}
 
@@ -27,11 +27,11 @@ fed_lines (b ∷ d ∷ ds) =
       | inr e ↦ rw e (fed_onto b (lines (d ∷ ds)) (some_line (d ∷ ds) (omega arith)) ∙ ap (λ l. b ∷ l) (fed_lines (d ∷ ds)))
     ]
 
-unfed_onto : (b : ℕ) (ls : List (List ℕ)) → (b ≡ 10 → ⊥) → All Unfed ls → All Unfed (onto b ls)
+unfed_onto : (b : ℕ) (ls : List (List ℕ)) → (b ≡ 10 → ⊥) → AllByRecursion Unfed ls → AllByRecursion Unfed (onto b ls)
 unfed_onto b [] h u = ((h, tt), tt)
 unfed_onto b (l ∷ ls) h u = ((h, u.0), u.1)
 
-pub unfed_lines : (bs : List ℕ) → All Unfed (lines bs)
+pub unfed_lines : (bs : List ℕ) → AllByRecursion Unfed (lines bs)
 unfed_lines [] = tt
 unfed_lines (b ∷ bs) =
     elim (cases_Bool (eqb b 10)) [
@@ -45,7 +45,7 @@ before_feed [] bs u = refl
 before_feed (b ∷ l) bs u =
     ap (λ t. cond t ([] ∷ lines (l ++ 10 ∷ bs)) (onto b (lines (l ++ 10 ∷ bs)))) (ne_eqb b 10 u.0) ∙ ap (onto b) (before_feed l bs u.1)
 
-lines_fed : (ls : List (List ℕ)) → All Unfed ls → lines (fed ls) ≡ ls
+lines_fed : (ls : List (List ℕ)) → AllByRecursion Unfed ls → lines (fed ls) ≡ ls
 lines_fed [] u = refl
 lines_fed (l ∷ ls) u = before_feed l (fed ls) u.0 ∙ ap (λ x. l ∷ x) (lines_fed ls u.1)
 

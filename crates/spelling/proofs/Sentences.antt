@@ -1,7 +1,7 @@
 -- The leftmost malformed word, and what reading the words of a text means. Assumes nothing.
 use Rattle.std.proofs.Common.{◌≡◌, ℕ, suc, ◌+◌, ◌≤◌, true, false, cond, eqb, List, [], ◌∷◌, ◌++◌, map, length, Some, None, Ok, Err, Option, Result, sym, refl, ap, ◌∙◌, subst, inl, inr, append_assoc, arith}
 use Rattle.std.proofs.lemmas.Bool.{cases_Bool, eqb-true, eqb-false}
-use Rattle.std.specs.List.{AllByRecursion as All}
+use Rattle.std.specs.List.{AllByRecursion}
 use Rattle.spelling.specs.declared.fault.WordFault.{WordFault}
 use Rattle.spelling.specs.declared.fault.WordFault.TheVariants.{Malformed}
 use Rattle.spelling.specs.Cuts.{until, since, afters, none}
@@ -9,7 +9,7 @@ use Rattle.spelling.specs.Grammar.{Spelled, Ends, BeginsWithWord, LeftmostMalfor
 use Rattle.spelling.specs.Reading.{unless, words_read, ReadsByGrammar}
 use Rattle.spelling.specs.Words.{spelled, readings, gap, malformed, numbers_in}
 use Rattle.spelling.proofs.Spelling.{word_from_spelled, spelled_from_word}
-use Rattle.spelling.proofs.Readings.{readings_stray, readings_space, Unspaced, spaced, spaced_ends, apart, afters_unspaced, cut_after, unspaced_word, sound, reads, spell_spelled, complete}
+use Rattle.spelling.proofs.Readings.{readings_stray, readings_space, Unspaced, spaced, spaced_ends, apart, afters_unspaced, cut_after, unspaced_word, sound, reads, spell_spelled}
 
 -- ---- the leftmost malformed word
 
@@ -40,7 +40,7 @@ record Gap (j : ℕ) (text : List ℕ) (k : ℕ) : Type 0 where
   ends : Ends rest
   broken : BeginsWithWord rest → ⊥
 
-gap_words : (j k : ℕ) (ws : List (List ℕ)) → All Unspaced ws → gap j (map spelled ws) ≡ Some k → Gap j (spaced ws) k
+gap_words : (j k : ℕ) (ws : List (List ℕ)) → AllByRecursion Unspaced ws → gap j (map spelled ws) ≡ Some k → Gap j (spaced ws) k
 gap_words j k [] u e = let z : ◌≡◌ {A = ℕ} 0 1 = cc in absurd (omega arith)
 gap_words j k (w ∷ ws) u e = next (spelled w) refl e (gap_words (suc j) k ws u.1)
   where

@@ -4,7 +4,7 @@ use Rattle.std.proofs.lemmas.Fmt.{digits_decimal, digits_value-decimal, length-d
 use Rattle.std.proofs.lemmas.Str.Parse.{IsNumeralModel, numerals_by_fold}
 use Rattle.std.proofs.lemmas.Bool.{and_parts, and_from, eq-eqb, ne_eqb, le-leb, leb-true, ltb-true, ltb-false, lt-ltb, le-ltb, cases_lt, not-true, not_from_false, and_left, and_right}
 use Rattle.std.specs.Char.{is_ascii_digit}
-use Rattle.std.specs.List.{AllByRecursion as All}
+use Rattle.std.specs.List.{AllByRecursion}
 use Rattle.std.specs.Str.{all_ascii_digits}
 use Rattle.spelling.specs.Grammar.{Digit, Word, WordExactly}
 use Rattle.spelling.specs.Words.{read_on, shaped, spells, spelled}
@@ -18,14 +18,14 @@ low : (n : ℕ) → n ≤ 65535 → n < 2 ^ 64
 low n h = omega arith
 
 -- The test for digits tells just the digits.
-digits_from_test : (bs : List ℕ) → all_ascii_digits bs ≡ true → All Digit bs
+digits_from_test : (bs : List ℕ) → all_ascii_digits bs ≡ true → AllByRecursion Digit bs
 digits_from_test [] e = tt
 digits_from_test (b ∷ bs) e =
     let p = and_parts (is_ascii_digit b) (all_ascii_digits bs) e in
     let q = and_parts (leb 48 b) (leb b 57) p.0 in
     ((leb-true 48 b q.0, leb-true b 57 q.1), digits_from_test bs p.1)
 
-test_from_digits : (bs : List ℕ) → All Digit bs → all_ascii_digits bs ≡ true
+test_from_digits : (bs : List ℕ) → AllByRecursion Digit bs → all_ascii_digits bs ≡ true
 test_from_digits [] d = refl
 test_from_digits (b ∷ bs) d = and_from _ _ (and_from _ _ (le-leb 48 b d.0.0) (le-leb b 57 d.0.1)) (test_from_digits bs d.1)
 

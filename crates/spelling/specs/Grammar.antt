@@ -1,6 +1,6 @@
 -- The grammar of words, as relations between a text and the numbers that it spells.
 use Rattle.std.specs.Prelude.{◌≡◌, ℕ, ◌+◌, ◌≤◌, List, [], ◌∷◌, ◌++◌, length, Some, decimal, Option, slice_index_or}
-use Rattle.std.specs.List.{AllByRecursion as All}
+use Rattle.std.specs.List.{AllByRecursion}
 use Rattle.spelling.specs.Words.{read_on}
 
 -- A byte is a decimal digit: 48 is 0 and 57 is 9.
@@ -9,7 +9,7 @@ Digit b = (48 ≤ b) × (b ≤ 57)
 
 -- The bytes w are a word for the number n: 1 to 5 decimal digits that write n, which is at most 65,535, with no leading zero unless the word is 0 itself.
 pub record Word (w : List ℕ) (n : ℕ) : Type 0 where
-  pub digits : All Digit w
+  pub digits : AllByRecursion Digit w
   pub some : 1 ≤ length w
   pub few : length w ≤ 5
   pub lead : slice_index_or w 0 0 ≡ 48 → length w ≡ 1
@@ -54,4 +54,4 @@ spell (n ∷ ns) = 32 ∷ (decimal n ++ spell ns)
 
 -- Each number is at most 65,535.
 abbrev pub Small : List ℕ → Type 0
-Small ns = All (λ n. n ≤ 65535) ns
+Small ns = AllByRecursion (λ n. n ≤ 65535) ns

@@ -1,7 +1,7 @@
 -- The lines of a file.
 use Rattle.std.specs.Prelude.{◌≡◌, ℕ, zero, suc, cond, List, [], ◌∷◌, ◌++◌, drop, Some, None, Option, ◌==◌, ◌≢◌}
 use Rattle.std.specs.Borrow.{Bor}
-use Rattle.std.specs.List.{slice_get, AllByRecursion as All}
+use Rattle.std.specs.List.{slice_get, AllByRecursion}
 use Rattle.spelling.specs.Cuts.{since}
 
 -- A byte put before the first line, which is begun by it where there is none.
@@ -35,7 +35,7 @@ fed (l ∷ ls) = l ++ (10 ∷ fed ls)
 
 -- No byte is a line feed.
 abbrev pub Unfed : List ℕ → Type 0
-Unfed bs = All (λ b. b ≢ 10) bs
+Unfed bs = AllByRecursion (λ b. b ≢ 10) bs
 
 -- A file with the line feed that its last line may lack.
 abbrev pub closed : List ℕ → List ℕ
@@ -46,5 +46,5 @@ closed (b ∷ c ∷ bs) = b ∷ closed (c ∷ bs)
 -- Lines are the lines of a file: none has a line feed within, joined with their line feeds they give the file, the last line feed supplied where it is missing, and no other lines do.
 pub record Rejoins (file : List ℕ) (ls : List (List ℕ)) : Type 0 where
   pub whole : fed ls ≡ closed file
-  pub apart : All Unfed ls
-  pub only : (ms : List (List ℕ)) → All Unfed ms → fed ms ≡ closed file → ms ≡ ls
+  pub apart : AllByRecursion Unfed ls
+  pub only : (ms : List (List ℕ)) → AllByRecursion Unfed ms → fed ms ≡ closed file → ms ≡ ls

@@ -7,7 +7,7 @@ use Rattle.trading.specs.Economies.{RowIn, all_waiting}
 use Rattle.trading.specs.Rankings.{rank}
 use Rattle.trading.specs.Trades.{points_at, next, walk}
 use Rattle.trading.specs.Cycles.{among}
-use Rattle.trading.specs.Stages.{Staged, stages, last_row}
+use Rattle.trading.specs.Stages.{Staged, last_row}
 use Rattle.trading.specs.Theorems.{BetterInWords, EquallyGood, PointsAtBest, AllWaitingProper, TradeProper, TradeWithin, OutcomeWithin, WalkMeetsCycle, FoundIsCycle, CycleIsFound, FirstFinds, SameMembers, CycleLasts, TradesCommute, RunEnds, RunsAgree, SameRuns, StagedOnce, RunIsStaged, NoGroupGains, NoAgentGains, NobodyBossy, SomebodyWorse}
 use Rattle.trading.proofs.Economies.{all_waiting_row}
 use Rattle.trading.proofs.Rankings.{better_preferred, preferred_better}
@@ -32,7 +32,7 @@ pub better_in_words : BetterInWords
 better_in_words r x y = (better_preferred r x y, preferred_better r x y)
 
 pub equally_good : EquallyGood
-equally_good = rankings.equally-good
+equally_good = rankings.equally_good
 
 pub points_at_best : PointsAtBest
 points_at_best M R A a = (
@@ -47,13 +47,13 @@ pub all_waiting_proper : AllWaitingProper
 all_waiting_proper = all_waiting_row
 
 pub trade_proper : TradeProper
-trade_proper M R A c proper y = circles.trade-proper (cycle_circles y) proper
+trade_proper M R A c proper y = circles.trade_proper (cycle_circles y) proper
 
 pub trade_within : TradeWithin
-trade_within M R A c within y = capacities.trade-within y within
+trade_within M R A c within y = capacities.trade_within y within
 
 pub outcome_within : OutcomeWithin
-outcome_within M R E e = capacities.outcome-within e
+outcome_within M R E e = capacities.outcome_within e
 
 pub walk_meets_cycle : WalkMeetsCycle
 walk_meets_cycle M R A a law proper w =
@@ -77,7 +77,7 @@ pub same_members : SameMembers
 same_members M R A c d a y z i j = same_cycle y z a i j
 
 pub cycle_lasts : CycleLasts
-cycle_lasts M R A c d law proper y z apart = lasting.cycle-lasts law proper y z apart
+cycle_lasts M R A c d law proper y z apart = lasting.cycle_lasts law proper y z apart
 
 pub trades_commute : TradesCommute
 trades_commute M R A c d law proper y z apart = cycles_commute law proper y z apart
@@ -110,13 +110,13 @@ run_is_staged M R E law e =
     subst (Staged M R) (exchanges_agree law proper (stages_nobody last) e.nobody (stages_exchanges M R law proper last) (run_exchanges e.run)) last
 
 pub no_group_gains : NoGroupGains
-no_group_gains M R S A E F G law proper differ e f good = profiles.no-group-gains law proper e f G differ good
+no_group_gains M R S A E F G law proper differ e f good = profiles.no_group_gains law proper e f G differ good
 
 pub no_agent_gains : NoAgentGains
-no_agent_gains M R S A E F i law proper differ e f = profiles.no-agent-gains law proper e f i differ
+no_agent_gains M R S A E F i law proper differ e f = profiles.no_agent_gains law proper e f i differ
 
 pub nobody_bossy : NobodyBossy
-nobody_bossy M R S A E F i law proper differ e f same = profiles.nobody-bossy law proper e f i differ same
+nobody_bossy M R S A E F i law proper differ e f same = profiles.nobody_bossy law proper e f i differ same
 
 pub somebody_worse : SomebodyWorse
-somebody_worse M R E e = efficiency.somebody-worse e
+somebody_worse M R E e = efficiency.somebody_worse e

@@ -1,7 +1,7 @@
 -- Cycles of a row, and the one that passes through a given agent.
 use Rattle.std.specs.Prelude.{◌≡◌, ℕ, zero, suc, Bool, true, false, cond, ◌⊎◌, List, [], ◌∷◌, length, Some, None, Option, ◌==◌}
 use Rattle.std.specs.Option.{option_map}
-use Rattle.std.specs.List.{AllByRecursion as All}
+use Rattle.std.specs.List.{AllByRecursion}
 use Rattle.market.specs.declared.agent.Agent.{Agent}
 use Rattle.market.specs.declared.place.Place.{Place}
 use Rattle.market.specs.Data.{agent_numbers}
@@ -41,7 +41,7 @@ Closes M R A (a ∷ c) = Chain M R A a c a ⊎ ((c ≡ []) × (points_at M R A a
 -- A cycle of a row: different waiting agents, in a list that closes.
 pub record Cycle (M : Economy) (R : Profile) (A : Row) (c : List Agent) : Type 0 where
   pub different : Distinct (agent_numbers c)
-  pub waiting : All (Waits A) c
+  pub waiting : AllByRecursion (Waits A) c
   pub closes : Closes M R A c
 
 -- The agents that a walk passes from b on, up to the first whose next is a, if it comes there within k agents.

@@ -8,11 +8,11 @@ returns c =
     let m = c.args.sizes.places in
     let a0 = vec_items c.args.out.now in
     let a1 = vec_items c.put.new.out in
-    let a2 = vec_items c.put-word.new.out in
-    let a3 = vec_items c.put-word-2.new.out in
+    let a2 = vec_items c.put_word.new.out in
+    let a3 = vec_items c.put_word-2.new.out in
     let a4 = vec_items c.put-2.new.out in
-    let agents : a2 ≡ a1 ++ 32 ∷ decimal n = c.put-word.ensures.items ∙ ap (λ x. a1 ++ 32 ∷ decimal x) c.from.ensures in
-    let places : a3 ≡ a2 ++ 32 ∷ decimal m = c.put-word-2.ensures.items ∙ ap (λ x. a2 ++ 32 ∷ decimal x) c.from-2.ensures in
+    let agents : a2 ≡ a1 ++ 32 ∷ decimal n = c.put_word.ensures.items ∙ ap (λ x. a1 ++ 32 ∷ decimal x) c.from.ensures in
+    let places : a3 ≡ a2 ++ 32 ∷ decimal m = c.put_word-2.ensures.items ∙ ap (λ x. a2 ++ 32 ∷ decimal x) c.from-2.ensures in
     record {
       items =
           onward a0 a1 a4 (codes "ok") _ c.put.ensures.items (

@@ -18,11 +18,11 @@ returns-then-n-lt10 t c =
       capacity = c.put.ensures.capacity;
     }
 
-pub put-number-requires : goal.put-number-requires
-put-number-requires t c = (omega arith, omega (arith, longer c.args.n c.if-n-lt10.false (omega arith)))
+pub put_number-requires : goal.put_number-requires
+put_number-requires t c = (omega arith, omega (arith, longer c.args.n c.if-n-lt10.false (omega arith)))
 
 pub put-requires-2 : goal.put-requires-2
-put-requires-2 t c = omega (arith, c.put-number.ensures.len, c.put-number.ensures.capacity, longer c.args.n c.if-n-lt10.false (omega arith))
+put-requires-2 t c = omega (arith, c.put_number.ensures.len, c.put_number.ensures.capacity, longer c.args.n c.if-n-lt10.false (omega arith))
 
 pub returns : goal.returns
 returns t c =
@@ -31,9 +31,9 @@ returns t c =
     record {
       items =
           c.put-2.ensures.items
-          ∙ ap (λ l. l ++ (48 + n % 10) ∷ []) c.put-number.ensures.items
+          ∙ ap (λ l. l ++ (48 + n % 10) ∷ []) c.put_number.ensures.items
           ∙ append_assoc (vec_items c.args.out.now) (decimal (n / 10)) ((48 + n % 10) ∷ [])
           ∙ ap (λ l. vec_items c.args.out.now ++ l) (sym (decimal_step n c.if-n-lt10.false low));
-      len = omega (arith, c.put-2.ensures.len, c.put-number.ensures.len, longer n c.if-n-lt10.false low);
-      capacity = omega (arith, c.put-2.ensures.capacity, c.put-number.ensures.capacity);
+      len = omega (arith, c.put-2.ensures.len, c.put_number.ensures.len, longer n c.if-n-lt10.false low);
+      capacity = omega (arith, c.put-2.ensures.capacity, c.put_number.ensures.capacity);
     }

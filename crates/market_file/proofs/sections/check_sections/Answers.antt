@@ -12,8 +12,8 @@ use Rattle.market_file.proofs.sections.check_sections.Goals.{After-words}
 
 pub loop-text-init : goal.loop-text-init
 loop-text-init c =
-    let same = c.into-iter-text-iterator.ensures.into-iter-gives in (
-      ap (λ d. sections_checked c.args.sizes 2 d (kinds_of c.args.contents) (lines_of c.into-iter-text-iterator.result)) c.requires.blank
+    let same = c.into_iter-text-iterator.ensures.into_iter_gives in (
+      ap (λ d. sections_checked c.args.sizes 2 d (kinds_of c.args.contents) (lines_of c.into_iter-text-iterator.result)) c.requires.blank
           ∙ ap (λ o. sections_checked c.args.sizes 2 blank (kinds_of c.args.contents) (lines_of o)) same,
       omega (arith, ap (λ o. length o.rest.now) same),
       omega (arith, ap (λ d. length d.names) c.requires.blank),
@@ -25,7 +25,7 @@ turned : (c : After-words) → sections_checked c.args.sizes (c.loop-text.after 
 turned c =
     let i = c.loop-text.after in
     let ks = kinds_of c.args.contents in
-    line_named c.args.sizes (i + 2) (i + 3) (known c.loop-text.ledger) c.in-Some-due.kind (drop i ks) (drop (i + 1) ks) c.in-Some.text.now (lines_of c.loop-text.text-iterator) (lines_of c.next.new.self) (seen c.in-ok-line.line) (numbers_of c.words.result) (still_due ks i c.in-Some-due.kind (sym c.due.ensures ∙ c.in-Some-due.is)) c.in-Some.ensures.steps (omega arith) (sym c.in-ok-line.ensures) c.words.ensures
+    line_named c.args.sizes (i + 2) (i + 3) (known c.loop-text.ledger) c.in-Some-due.kind (drop i ks) (drop (i + 1) ks) c.in-Some.text.now (lines_of c.loop-text.text-iterator) (lines_of c.next.new.self) (seen c.in_ok-line.line) (numbers_of c.words.result) (still_due ks i c.in-Some-due.kind (sym c.due.ensures ∙ c.in-Some-due.is)) c.in-Some.ensures.steps (omega arith) (sym c.in_ok-line.ensures) c.words.ensures
 
 pub take-requires : goal.take-requires
 take-requires c =
@@ -35,24 +35,24 @@ take-requires c =
     record {
       names = omega (arith, within, c.loop-text.invariant.2, c.requires.few);
       nodes = omega (arith, within, c.loop-text.invariant.3, c.requires.few);
-      few = omega (arith, ap length c.words.ensures, few_words c.in-Some-due.kind c.args.sizes c.in-Some.text.now (seen c.in-ok-line.line) c.requires.sizes.0 c.requires.sizes.1 (placed_ok (i + 3) _ _ (sym c.in-ok-line.ensures)));
+      few = omega (arith, ap length c.words.ensures, few_words c.in-Some-due.kind c.args.sizes c.in-Some.text.now (seen c.in_ok-line.line) c.requires.sizes.0 c.requires.sizes.1 (placed_ok (i + 3) _ _ (sym c.in_ok-line.ensures)));
     }
 
-pub returns-in-default : goal.returns-in-default
-returns-in-default c =
+pub returns-in_default : goal.returns-in_default
+returns-in_default c =
     let i = c.loop-text.after in
     let ks = kinds_of c.args.contents in
     ap Err c.broken.ensures
-    ∙ sym (line_extra c.args.sizes (i + 2) (i + 3) (known c.loop-text.ledger) (drop i ks) c.in-Some.text.now (lines_of c.loop-text.text-iterator) (lines_of c.next.new.self) (none_due ks i (sym c.due.ensures ∙ c.in-default.is)) c.in-Some.ensures.steps (omega arith))
+    ∙ sym (line_extra c.args.sizes (i + 2) (i + 3) (known c.loop-text.ledger) (drop i ks) c.in-Some.text.now (lines_of c.loop-text.text-iterator) (lines_of c.next.new.self) (none_due ks i (sym c.due.ensures ∙ c.in_default.is)) c.in-Some.ensures.steps (omega arith))
     ∙ c.loop-text.invariant.0
 
-pub returns-in-err-line : goal.returns-in-err-line
-returns-in-err-line c =
-    let p = err_from_is_err_and c.from-residual.result c.from-residual.ensures.1 in
+pub returns-in_err-line : goal.returns-in_err-line
+returns-in_err-line c =
+    let p = err_from_is_err_and c.from_residual.result c.from_residual.ensures.1 in
     let i = c.loop-text.after in
     let ks = kinds_of c.args.contents in
     rw (p.1, p.2) (
-    sym (line_fault c.args.sizes (i + 2) (i + 3) (known c.loop-text.ledger) c.in-Some-due.kind (drop i ks) (drop (i + 1) ks) c.in-Some.text.now (lines_of c.loop-text.text-iterator) (lines_of c.next.new.self) c.in-err-line.field-0.0 (still_due ks i c.in-Some-due.kind (sym c.due.ensures ∙ c.in-Some-due.is)) c.in-Some.ensures.steps (omega arith) (sym c.in-err-line.ensures))
+    sym (line_fault c.args.sizes (i + 2) (i + 3) (known c.loop-text.ledger) c.in-Some-due.kind (drop i ks) (drop (i + 1) ks) c.in-Some.text.now (lines_of c.loop-text.text-iterator) (lines_of c.next.new.self) c.in_err-line.field-0.0 (still_due ks i c.in-Some-due.kind (sym c.due.ensures ∙ c.in-Some-due.is)) c.in-Some.ensures.steps (omega arith) (sym c.in_err-line.ensures))
     ∙ c.loop-text.invariant.0
     )
 
@@ -72,7 +72,7 @@ loop-text-preserved c =
     let ns = numbers_of c.words.result in
     let d = known c.loop-text.ledger in
     let rest = lines_of c.next.new.self in
-    let told = c.in-default-take.ensures in
+    let told = c.in_default-take.ensures in
     let same : i + 1 + 2 ≡ i + 3 = omega arith in (
       ap (λ n. sections_checked c.args.sizes n (known c.take.new.self) (drop (i + 1) ks) rest) same
           ∙ ap (λ e. sections_checked c.args.sizes (i + 3) e (drop (i + 1) ks) rest) told.after

@@ -1,5 +1,5 @@
 use Rattle.std.proofs.Common.{◌+◌, ◌≤◌, length, drop, sym, ap, ◌∙◌, subst, arith}
-use Rattle.std.specs.List.{AllByRecursion as All}
+use Rattle.std.specs.List.{AllByRecursion}
 use Rattle.spelling.specs.Views.{lines_of, numbers_of}
 use Rattle.market_file.specs.Contents.{kinds_of}
 use Rattle.market_file.specs.Files.{numbers_at}
@@ -22,7 +22,7 @@ pub enter-requires : goal.enter-requires
 enter-requires c =
     let ks = kinds_of c.args.contents in
     let within = due_within ks c.loop-text.passed c.in-Some-due.kind (sym c.due.ensures ∙ c.in-Some-due.is) in
-    let few = (subst (All (λ l. length (numbers_at l) ≤ 201)) c.in-Some.ensures.steps c.loop-text.invariant.4).0 in
+    let few = (subst (AllByRecursion (λ l. length (numbers_at l) ≤ 201)) c.in-Some.ensures.steps c.loop-text.invariant.4).0 in
     record {
       few = omega (arith, few, ap length c.after-letter.ensures);
       nodes = omega (arith, within, c.loop-text.invariant.2, c.requires.kinds);
@@ -43,7 +43,7 @@ loop-text-preserved c =
       omega (arith, c.loop-text.invariant.1, (c.in-Some.ensures.goes.on tt).2),
       omega (arith, c.loop-text.invariant.2, ap (λ x. length x.nodes) c.enter.ensures, entered_nodes k ns h),
       omega (arith, c.loop-text.invariant.3, ap (λ x. length x.tenants) c.enter.ensures, entered_tenants k ns h),
-      (subst (All (λ l. length (numbers_at l) ≤ 201)) c.in-Some.ensures.steps c.loop-text.invariant.4).1,
+      (subst (AllByRecursion (λ l. length (numbers_at l) ≤ 201)) c.in-Some.ensures.steps c.loop-text.invariant.4).1,
     )
 
 pub returns : goal.returns

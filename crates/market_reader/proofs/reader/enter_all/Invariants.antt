@@ -1,5 +1,5 @@
 use Rattle.std.proofs.Common.{◌≡◌, ◌+◌, ◌≤◌, length, drop}
-use Rattle.std.specs.List.{AllByRecursion as All}
+use Rattle.std.specs.List.{AllByRecursion}
 use Rattle.spelling.specs.Views.{lines_of}
 use Rattle.market_file.specs.Contents.{kinds_of}
 use Rattle.market_file.specs.Files.{numbers_at}
@@ -14,4 +14,4 @@ invariant-loop-text l =
     × (l.passed + length l.text-iterator.rest.now ≤ length l.others.rest.now)
     × (length (held l.market).nodes ≤ l.passed)
     × (length (held l.market).tenants ≤ l.passed)
-    × All (λ x. length (numbers_at x) ≤ 201) (lines_of l.text-iterator)
+    × AllByRecursion (λ x. length (numbers_at x) ≤ 201) (lines_of l.text-iterator)

@@ -1,7 +1,7 @@
 use Rattle.std.proofs.Common.{◌≡◌, ◌≤◌, length, drop, Ok, Err, sym, refl, ap, ◌∙◌, subst, arith}
 use Rattle.std.proofs.lemmas.List.{drop-drop}
 use Rattle.std.proofs.lemmas.Result.{err_from_is_err_and}
-use Rattle.std.specs.List.{AllByRecursion as All}
+use Rattle.std.specs.List.{AllByRecursion}
 use Rattle.spelling.specs.Lines.{lines}
 use Rattle.market_file.specs.Contents.{kinds_of}
 use Rattle.market_file.specs.Files.{numbers_at}
@@ -38,7 +38,7 @@ enter-all-requires c =
       nodes = omega (arith, ap (λ h. length h.nodes) c.start.ensures);
       tenants = omega (arith, ap (λ h. length h.tenants) c.start.ensures);
       kinds = few_kinds f.sizes f.contents (agents_bound (lines file) f kept).1 (places_bound (lines file) f kept).1 kept.right;
-      few = subst (All (λ l. length (numbers_at l) ≤ 201)) (sym (others (goal.at.enter-all-requires c).After-next-2)) (few_kept (lines file) f kept);
+      few = subst (AllByRecursion (λ l. length (numbers_at l) ≤ 201)) (sym (others (goal.at.enter-all-requires c).After-next-2)) (few_kept (lines file) f kept);
     }
 
 pub returns : goal.returns

@@ -6,4 +6,4 @@ use Rattle.naming.proofs.fault.rest_fault.Goals as goal
 
 pub returns-in-len1-up : goal.returns-in-len1-up
 returns-in-len1-up c =
-    c.twice.ensures ∙ ap (twice_from 2) c.first-repeat.ensures.value ∙ ap (λ l. twice_from 2 (repeat_in l)) (take_rest c.args.numbers.now 1)
+    c.twice.ensures ∙ ap (twice_from 2) c.first_repeat.ensures.value ∙ ap (λ l. twice_from 2 (repeat_in l)) (take_rest c.args.numbers.now 1)

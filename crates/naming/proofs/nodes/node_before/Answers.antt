@@ -5,14 +5,14 @@ use Rattle.naming.specs.Repeats.{any_of}
 use Rattle.naming.proofs.Repeating.{any_here, any_more}
 use Rattle.naming.proofs.nodes.node_before.Goals as goal
 
-pub returns-then-is-node : goal.returns-then-is-node
-returns-then-is-node c =
-    sym (any_here (is_node c.args.place c.args.parent c.args.took) c.args.nodes.now c.loop-node.node-index _ c.loop-node-test.true (sym c.if-is-node.ensures))
+pub returns-then-is_node : goal.returns-then-is_node
+returns-then-is_node c =
+    sym (any_here (is_node c.args.place c.args.parent c.args.took) c.args.nodes.now c.loop-node.node-index _ c.loop-node-test.true (sym c.if-is_node.ensures))
     ∙ c.loop-node.invariant
 
 pub loop-node-preserved : goal.loop-node-preserved
 loop-node-preserved c =
-    sym (any_more (is_node c.args.place c.args.parent c.args.took) c.args.nodes.now c.loop-node.node-index _ c.loop-node-test.true (sym c.if-is-node.ensures))
+    sym (any_more (is_node c.args.place c.args.parent c.args.took) c.args.nodes.now c.loop-node.node-index _ c.loop-node-test.true (sym c.if-is_node.ensures))
     ∙ c.loop-node.invariant
 
 pub returns : goal.returns

@@ -8,18 +8,18 @@ use Rattle.naming.proofs.repeat.first_repeat.Goals as goal
 front : (xs : List ℕ) (i : ℕ) (t : Bool) → t ≡ has (get_or xs i 0) (take (i - 0) xs) → has (get_or xs i 0) (take i xs) ≡ t
 front xs i t e = let same : i ≡ i - 0 = omega arith in ap (λ n. has (get_or xs i 0) (take n xs)) same ∙ sym e
 
-pub returns-then-is-among : goal.returns-then-is-among
-returns-then-is-among c =
+pub returns-then-is_among : goal.returns-then-is_among
+returns-then-is_among c =
     let xs = c.args.numbers.now in
     let i = c.loop-i.i in
-    let e : Some i ≡ repeat_in xs = sym (turn_here xs i c.loop-i-test.true (front xs i true c.if-is-among.ensures)) ∙ c.loop-i.invariant in
+    let e : Some i ≡ repeat_in xs = sym (turn_here xs i c.loop-i-test.true (front xs i true c.if-is_among.ensures)) ∙ c.loop-i.invariant in
     record { value = e; within = c.loop-i-test.true; law = repeats_exactly xs _ e }
 
 pub loop-i-preserved : goal.loop-i-preserved
 loop-i-preserved c =
     let xs = c.args.numbers.now in
     let i = c.loop-i.i in
-    sym (turn_on xs i c.loop-i-test.true (front xs i false c.if-is-among.ensures)) ∙ c.loop-i.invariant
+    sym (turn_on xs i c.loop-i-test.true (front xs i false c.if-is_among.ensures)) ∙ c.loop-i.invariant
 
 pub returns : goal.returns
 returns c =
