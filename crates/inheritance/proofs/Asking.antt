@@ -3,7 +3,7 @@ use Rattle.std.proofs.Common.{◌≡◌, ℕ, zero, suc, ◌≤◌, Bool, true, 
 use Rattle.std.proofs.ByRecursion.{All-get_or, All-from_get_or}
 use Rattle.std.proofs.lemmas.List.{get_or_past}
 use Rattle.std.proofs.lemmas.Bool.{cases_Bool, cases_lt, and_parts, and_from, eqb-true, eq-eqb, both_ways}
-use Rattle.std.specs.List.{AllByRecursion as All}
+use Rattle.std.specs.List.{AllByRecursion}
 use Rattle.market.specs.declared.agent.Agent.{Agent}
 use Rattle.market.specs.declared.place.Place.{Place}
 use Rattle.market.specs.declared.refusal.Refusal.{Refusal}
@@ -25,7 +25,7 @@ unplaced≢placed p e = let z : ◌≡◌ {A = ℕ} 0 1 = cc in omega arith
 row_right : (n m : ℕ) (A : Row) → length A ≡ n → every_of (standing_fits m) A ≡ true → Proper n m A
 row_right n m A size e = record { size = size; placed = λ a p. go a.number p }
   where
-    fits : All (λ s. standing_fits m s ≡ true) A
+    fits : AllByRecursion (λ s. standing_fits m s ≡ true) A
     fits = every_all (standing_fits m) (λ s. standing_fits m s ≡ true) (λ s h. h) A e
 
     go : (j : ℕ) (p : Place) → standing A (record { number = j }) ≡ Placed p → PlaceIn m p
@@ -59,7 +59,7 @@ anybody A a w =
       | inr e ↦ absurd (go a.number w (waits_in A a w).0 (waits_in A a w).1 (none_all is_waiting (λ s. is_waiting s ≡ false) (λ s h. h) A e))
     ]
   where
-    go : (j : ℕ) → Waits A (record { number = j }) → 1 ≤ j → j ≤ length A → All (λ s. is_waiting s ≡ false) A → ⊥
+    go : (j : ℕ) → Waits A (record { number = j }) → 1 ≤ j → j ≤ length A → AllByRecursion (λ s. is_waiting s ≡ false) A → ⊥
     go zero v low high none = omega arith
     go (suc i) v low high none = both_ways (is_waiting (get_or A i Unplaced)) (All-get_or (λ s. is_waiting s ≡ false) A i Unplaced (omega arith) none) (ap is_waiting v)
 

@@ -2,7 +2,7 @@
 use Rattle.std.proofs.Common.{◌≡◌, ℕ, zero, suc, ◌+◌, ◌-◌, ◌<◌, ◌≤◌, true, false, cond, List, [], ◌∷◌, ◌++◌, length, get_or, drop, Some, None, Option, unwrap_or, sym, refl, ap, ◌∙◌, subst, inl, inr, arith}
 use Rattle.std.proofs.lemmas.List.{at_drop_more}
 use Rattle.std.proofs.lemmas.Bool.{cases_Bool, cases_eq}
-use Rattle.std.specs.List.{AllByRecursion as All}
+use Rattle.std.specs.List.{AllByRecursion}
 use Rattle.market.specs.declared.agent.Agent.{Agent}
 use Rattle.market.specs.Rows.{Row, Waits, is_waiting, waits, Continues}
 use Rattle.succession.specs.Orders.{first_waiting, FirstWaiting, agents_from, nobody, owner_by}
@@ -43,7 +43,7 @@ module _ (A : Row) (n i : ℕ) (h : i < n) where
 pub lowest_none : (A : Row) (n i : ℕ) → n ≤ i → first_waiting A (agents_from (i + 1) (n - i)) ≡ None
 lowest_none A n i h = let none : n - i ≡ 0 = omega arith in ap (λ k. first_waiting A (agents_from (i + 1) k)) none
 
-pub first_none : (A : Row) (order : List Agent) → first_waiting A order ≡ None → All (λ b. Waits A b → ⊥) order
+pub first_none : (A : Row) (order : List Agent) → first_waiting A order ≡ None → AllByRecursion (λ b. Waits A b → ⊥) order
 first_none A [] e = tt
 first_none A (a ∷ rest) e =
     elim (cases_Bool (waits A a)) [
@@ -103,12 +103,12 @@ first_stays A B more (b ∷ rest) a e w =
           first_later B b rest (ap is_waiting (kept_false A B more b h) ∙ h) ∙ first_stays A B more rest a (sym (first_later A b rest h) ∙ e) w
     ]
 
-back : {X : Type 0} (P : X → Type 0) (xs ys : List X) → All P (xs ++ ys) → All P ys
+back : {X : Type 0} (P : X → Type 0) (xs ys : List X) → AllByRecursion P (xs ++ ys) → AllByRecursion P ys
 back P [] ys a = a
 back P (x ∷ xs) ys a = back P xs ys a.1
 
 -- Among all agents from the number k on, nobody passed over waits.
-nobody_from : (A : Row) (k n : ℕ) → All (λ b. Waits A b → ⊥) (agents_from k n) → (j : ℕ) → k ≤ j → j < k + n → Waits A (record { number = j }) → ⊥
+nobody_from : (A : Row) (k n : ℕ) → AllByRecursion (λ b. Waits A b → ⊥) (agents_from k n) → (j : ℕ) → k ≤ j → j < k + n → Waits A (record { number = j }) → ⊥
 nobody_from A k zero none j low high w = omega arith
 nobody_from A k (suc n) none j low high w =
     elim (cases_eq j k) [

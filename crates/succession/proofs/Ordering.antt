@@ -4,7 +4,7 @@ use mathlib.Core.List.{map-append}
 use lib.ListN.{length-map}
 use Rattle.std.proofs.ByRecursion.{All-map, All-weaker}
 use Rattle.std.proofs.lemmas.Bool.{and_parts, and_from, eqb-true, eqb-false, eq-eqb, ne_eqb, not-true, not_from_false, or_from}
-use Rattle.std.specs.List.{slice_get, AllByRecursion as All}
+use Rattle.std.specs.List.{slice_get, AllByRecursion}
 use Rattle.market.specs.declared.agent.Agent.{Agent}
 use Rattle.market.specs.declared.place.Place.{Place}
 use Rattle.market.specs.Data.{agent_numbers, OrderOf}
@@ -33,7 +33,7 @@ module _ {X : Type 0} (key : X → ℕ) (fits : X → Bool) (Fits : X → Type 0
   not_any x [] a = refl
   not_any x (y ∷ ys) a = or_from (keyed x y) (any_of (keyed x) ys) (ne_eqb (key y) (key x) a.0) (not_any x ys a.1)
 
-  pub keys_right : ((x : X) → fits x ≡ true → Fits x) → (earlier xs : List X) → each_after (entry_right keyed (λ _ x. fits x)) earlier xs ≡ true → All Fits xs × DistinctAfter (map key earlier) (map key xs)
+  pub keys_right : ((x : X) → fits x ≡ true → Fits x) → (earlier xs : List X) → each_after (entry_right keyed (λ _ x. fits x)) earlier xs ≡ true → AllByRecursion Fits xs × DistinctAfter (map key earlier) (map key xs)
   keys_right one earlier [] e = (tt, tt)
   keys_right one earlier (x ∷ xs) e =
       let q = and_parts (entry_right keyed (λ _ x. fits x) earlier x) (each_after (entry_right keyed (λ _ x. fits x)) (earlier ++ x ∷ []) xs) e in
@@ -41,7 +41,7 @@ module _ {X : Type 0} (key : X → ℕ) (fits : X → Bool) (Fits : X → Type 0
       let rest = keys_right one (earlier ++ x ∷ []) xs q.1 in
       ((one x w.0, rest.0), (absent x earlier (not-true _ w.1), subst (λ l. DistinctAfter l (map key xs)) (map-append key earlier (x ∷ [])) rest.1))
 
-  pub keys_fit : ((x : X) → Fits x → fits x ≡ true) → (earlier xs : List X) → All Fits xs → DistinctAfter (map key earlier) (map key xs) → each_after (entry_right keyed (λ _ x. fits x)) earlier xs ≡ true
+  pub keys_fit : ((x : X) → Fits x → fits x ≡ true) → (earlier xs : List X) → AllByRecursion Fits xs → DistinctAfter (map key earlier) (map key xs) → each_after (entry_right keyed (λ _ x. fits x)) earlier xs ≡ true
   keys_fit one earlier [] a d = refl
   keys_fit one earlier (x ∷ xs) a d =
       and_from _ _ (and_from _ _ (one x a.0) (not_from_false _ (not_any x earlier d.0)))
@@ -57,7 +57,7 @@ pub order_fits : (n : ℕ) (order : List Agent) → OrderOf n order → is_order
 order_fits n order o =
     and_from _ _ (eq-eqb (length order) n o.size) (keys_fit (λ (a : Agent). a.number) (agent_fits n) (AgentIn n) (agent_fits_true n) [] order o.known o.once)
 
-pub all_nth : {X : Type 0} (P : X → Type 0) (xs : List X) (i : ℕ) (x : X) → slice_get xs i ≡ Some x → All P xs → P x
+pub all_nth : {X : Type 0} (P : X → Type 0) (xs : List X) (i : ℕ) (x : X) → slice_get xs i ≡ Some x → AllByRecursion P xs → P x
 all_nth P [] i x e a = absurd (none≢some x e)
 all_nth P (y ∷ xs) zero x e a = let same : y ≡ x = cc in subst P same a.0
 all_nth P (y ∷ xs) (suc i) x e a = all_nth P xs i x e a.1

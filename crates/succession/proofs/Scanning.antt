@@ -2,7 +2,7 @@
 use Rattle.std.proofs.Common.{◌≡◌, ℕ, ◌+◌, ◌<◌, ◌≤◌, Bool, true, false, ◌&&◌, ◌||◌, List, [], ◌∷◌, length, get_or, take, drop, sym, refl, ap, ◌∙◌}
 use Rattle.std.proofs.lemmas.List.{at_drop_more, at_drop_all, take_more}
 use Rattle.std.proofs.lemmas.Bool.{and_parts, and_from, or_parts, or_from}
-use Rattle.std.specs.List.{AllByRecursion as All}
+use Rattle.std.specs.List.{AllByRecursion}
 use Rattle.succession.specs.Scans.{every_of, any_of, each_after}
 
 module _ {X : Type 0} (p : X → Bool) (xs : List X) (i : ℕ) (d : X) (h : i < length xs) where
@@ -35,20 +35,20 @@ module _ {X : Type 0} (p : List X → X → Bool) (xs : List X) (i : ℕ) (d : X
 
 module _ {X : Type 0} (p : X → Bool) (P : X → Type 0) where
   -- A test of every element is passed exactly when each passes it.
-  pub every_all : ((x : X) → p x ≡ true → P x) → (xs : List X) → every_of p xs ≡ true → All P xs
+  pub every_all : ((x : X) → p x ≡ true → P x) → (xs : List X) → every_of p xs ≡ true → AllByRecursion P xs
   every_all one [] e = tt
   every_all one (x ∷ xs) e = let q = and_parts (p x) (every_of p xs) e in (one x q.0, every_all one xs q.1)
 
-  pub all_every : ((x : X) → P x → p x ≡ true) → (xs : List X) → All P xs → every_of p xs ≡ true
+  pub all_every : ((x : X) → P x → p x ≡ true) → (xs : List X) → AllByRecursion P xs → every_of p xs ≡ true
   all_every one [] a = refl
   all_every one (x ∷ xs) a = and_from (p x) (every_of p xs) (one x a.0) (all_every one xs a.1)
 
   -- A test of some element is failed exactly when each fails it.
-  pub none_all : ((x : X) → p x ≡ false → P x) → (xs : List X) → any_of p xs ≡ false → All P xs
+  pub none_all : ((x : X) → p x ≡ false → P x) → (xs : List X) → any_of p xs ≡ false → AllByRecursion P xs
   none_all one [] e = tt
   none_all one (x ∷ xs) e = let q = or_parts (p x) (any_of p xs) e in (one x q.0, none_all one xs q.1)
 
-  pub all_none : ((x : X) → P x → p x ≡ false) → (xs : List X) → All P xs → any_of p xs ≡ false
+  pub all_none : ((x : X) → P x → p x ≡ false) → (xs : List X) → AllByRecursion P xs → any_of p xs ≡ false
   all_none one [] a = refl
   all_none one (x ∷ xs) a = or_from (p x) (any_of p xs) (one x a.0) (all_none one xs a.1)
 

@@ -1,7 +1,7 @@
 -- Orders of agents: when a list is one, and who is the first in it that waits.
 use Rattle.std.specs.Prelude.{◌≡◌, ℕ, zero, suc, Bool, cond, ◌&&◌, List, [], ◌∷◌, ◌++◌, length, Some, None, Option, ◌==◌}
 use Rattle.std.specs.Option.{unwrap_or}
-use Rattle.std.specs.List.{AllByRecursion as All}
+use Rattle.std.specs.List.{AllByRecursion}
 use Rattle.market.specs.declared.agent.Agent.{Agent}
 use Rattle.market.specs.declared.place.Place.{Place}
 use Rattle.market.specs.Rows.{Row, Waits, waits, PlaceIn, Proper}
@@ -28,7 +28,7 @@ pub record FirstWaiting (A : Row) (order : List Agent) (a : Agent) : Type 0 wher
   pub before : List Agent
   pub after : List Agent
   pub parts : order ≡ before ++ a ∷ after
-  pub departed : All (λ b. Waits A b → ⊥) before
+  pub departed : AllByRecursion (λ b. Waits A b → ⊥) before
   pub waits : Waits A a
 
 -- So many agents, numbered on from the number k.

@@ -1,6 +1,6 @@
 -- Priorities: an order of all agents for each place.
 use Rattle.std.specs.Prelude.{◌≡◌, ℕ, Bool, ◌&&◌, List, [], ◌∷◌, length, ◌==◌, slice_index_or}
-use Rattle.std.specs.List.{AllByRecursion as All}
+use Rattle.std.specs.List.{AllByRecursion}
 use Rattle.market.specs.declared.agent.Agent.{Agent}
 use Rattle.market.specs.declared.place.Place.{Place}
 use Rattle.market.specs.Data.{OrderOf}
@@ -18,4 +18,4 @@ are_orders n m orders = length orders == m && every_of (is_order n) orders
 -- Orders of all n agents, one for each of the m places.
 pub record OrdersOf (n m : ℕ) (orders : List (List Agent)) : Type 0 where
   pub size : length orders ≡ m
-  pub each : All (OrderOf n) orders
+  pub each : AllByRecursion (OrderOf n) orders

@@ -4,18 +4,18 @@ use Rattle.inheritance.specs.Questions.{owner_answer}
 use Rattle.inheritance.proofs.Asking.{asked, unasked, question_law}
 use Rattle.inheritance.proofs.rule.owner_of.Goals as goal
 
-pub returns-then-question-fits : goal.returns-then-question-fits
-returns-then-question-fits g c =
+pub returns-then-question_fits : goal.returns-then-question_fits
+returns-then-question_fits g c =
     let T = g.R.Rule.terms c.args.rule.now in
     let A = c.args.row.now in
     let p = c.args.place in
-    let e : Ok c.owner.result ≡ owner_answer T A p = asked T A p c.agents.result c.places.result c.agents.ensures c.places.ensures c.owner.result c.owner.ensures c.if-question-fits.ensures in
+    let e : Ok c.owner.result ≡ owner_answer T A p = asked T A p c.agents.result c.places.result c.agents.ensures c.places.ensures c.owner.result c.owner.ensures c.if-question_fits.ensures in
     record { value = e; law = question_law T A p (Ok c.owner.result) e (g.R.Rule.lawful c.args.rule.now).waits }
 
-pub returns-else-question-fits : goal.returns-else-question-fits
-returns-else-question-fits g c =
+pub returns-else-question_fits : goal.returns-else-question_fits
+returns-else-question_fits g c =
     let T = g.R.Rule.terms c.args.rule.now in
     let A = c.args.row.now in
     let p = c.args.place in
-    let e : Err Question ≡ owner_answer T A p = unasked T A p c.agents.result c.places.result c.agents.ensures c.places.ensures c.if-question-fits.ensures in
+    let e : Err Question ≡ owner_answer T A p = unasked T A p c.agents.result c.places.result c.agents.ensures c.places.ensures c.if-question_fits.ensures in
     record { value = e; law = question_law T A p (Err Question) e (g.R.Rule.lawful c.args.rule.now).waits }

@@ -8,5 +8,5 @@ returns-in-Some c = ap (λ o. unwrap_or o nobody) (sym (first_front c.args.row.n
 
 pub returns-in-None : goal.returns-in-None
 returns-in-None c =
-    c.lowest-waiting.ensures
+    c.lowest_waiting.ensures
     ∙ ap (λ o. unwrap_or o nobody) (sym (first_back c.args.row.now c.args.order.now (agents_from 1 c.args.agents) (sym c.in-None.ensures)))

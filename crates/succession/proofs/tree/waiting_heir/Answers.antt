@@ -8,14 +8,14 @@ loop-index-smaller c = omega (arith, c.in-Some.ensures.within.0, c.in-Some.ensur
 pub loop-index-preserved : goal.loop-index-preserved
 loop-index-preserved c =
     let found = c.in-Some.ensures in
-    sym (walk_more c.args.row.now c.args.place c.args.nodes.now c.loop-index.number c.loop-index.took c.in-Some.index _ found.within.1 found.value c.in-Some-taken-by.taken c.in-Some-taken-by.ensures)
+    sym (walk_more c.args.row.now c.args.place c.args.nodes.now c.loop-index.number c.loop-index.took c.in-Some.index _ found.within.1 found.value c.in-Some-taken_by.taken c.in-Some-taken_by.ensures)
     ∙ c.loop-index.invariant
 
-pub returns-in-default-taken-by : goal.returns-in-default-taken-by
-returns-in-default-taken-by c =
+pub returns-in_default-taken_by : goal.returns-in_default-taken_by
+returns-in_default-taken_by c =
     let found = c.in-Some.ensures in
-    sym (walk_stop c.args.row.now c.args.place c.args.nodes.now c.loop-index.number c.loop-index.took c.in-Some.index _ found.within.1 found.value c.in-default-taken-by.ensures)
+    sym (walk_stop c.args.row.now c.args.place c.args.nodes.now c.loop-index.number c.loop-index.took c.in-Some.index _ found.within.1 found.value c.in_default-taken_by.ensures)
     ∙ c.loop-index.invariant
 
 pub returns : goal.returns
-returns c = sym (walk_over c.args.row.now c.args.place c.args.nodes.now c.loop-index.number c.loop-index.took c.in-default.ensures.value) ∙ c.loop-index.invariant
+returns c = sym (walk_over c.args.row.now c.args.place c.args.nodes.now c.loop-index.number c.loop-index.took c.in_default.ensures.value) ∙ c.loop-index.invariant
