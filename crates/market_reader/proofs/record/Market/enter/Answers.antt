@@ -17,17 +17,17 @@ pub gather_at-requires-in-Ranking : goal.gather_at-requires-in-Ranking
 gather_at-requires-in-Ranking c =
     room_fewer 201 _ (map vec_capacity (vec_items c.args.self.now.rankings)) (omega (arith, c.requires.few, ap length c.take_next-about.ensures.rest, length-drop 1 (numbers_of c.args.words))) c.args.self.now.rankings_room
 
-pub invariant_of-self-in-Priorities : goal.invariant_of-self-in-Priorities
-invariant_of-self-in-Priorities c =
-    let k = c.args.self.now in
-    let told = c.gather_at.ensures in
-    (k.agents_few, (k.places_few, (k.capacities_room, (k.queue_room, (told.len ∙ k.places_room, (ap (room_for 201) told.capacities ∙ k.orders_room, (k.nodes_room, (k.tenants_room, (k.agents_room, (k.rankings_room, tt))))))))))
+pub invariant_of-self-in-Priorities-clause-places_room : goal.invariant_of-self-in-Priorities-clause-places_room
+invariant_of-self-in-Priorities-clause-places_room c = c.gather_at.ensures.len ∙ c.args.self.now.places_room
 
-pub invariant_of-self-in-Ranking : goal.invariant_of-self-in-Ranking
-invariant_of-self-in-Ranking c =
-    let k = c.args.self.now in
-    let told = c.gather_at-in-Ranking.ensures in
-    (k.agents_few, (k.places_few, (k.capacities_room, (k.queue_room, (k.places_room, (k.orders_room, (k.nodes_room, (k.tenants_room, (told.len ∙ k.agents_room, (ap (room_for 201) told.capacities ∙ k.rankings_room, tt))))))))))
+pub invariant_of-self-in-Priorities-clause-orders_room : goal.invariant_of-self-in-Priorities-clause-orders_room
+invariant_of-self-in-Priorities-clause-orders_room c = ap (room_for 201) c.gather_at.ensures.capacities ∙ c.args.self.now.orders_room
+
+pub invariant_of-self-in-Ranking-clause-agents_room : goal.invariant_of-self-in-Ranking-clause-agents_room
+invariant_of-self-in-Ranking-clause-agents_room c = c.gather_at-in-Ranking.ensures.len ∙ c.args.self.now.agents_room
+
+pub invariant_of-self-in-Ranking-clause-rankings_room : goal.invariant_of-self-in-Ranking-clause-rankings_room
+invariant_of-self-in-Ranking-clause-rankings_room c = ap (room_for 201) c.gather_at-in-Ranking.ensures.capacities ∙ c.args.self.now.rankings_room
 
 -- The first word and the others.
 parted : {X : Type 0} (t : List X) (value : List ℕ → X) (n : ℕ) (rest ns : List ℕ) → n ≡ about ns → rest ≡ drop 1 ns → set_at t n (value rest) ≡ set_at t (about ns) (value (drop 1 ns))
