@@ -20,7 +20,7 @@ use Rattle.market_file.specs.Bounds.{lowest, highest, InRange}
 use Rattle.market_file.specs.Contents.{kinds_of, priorities_due, RightContents}
 use Rattle.market_file.specs.Ledgers.{node_in, blank}
 use Rattle.market_reader.specs.Filling.{Entry, of_kind, agents_in, places_in, tenant_in, capacity_in, order_in, ranking_in}
-use Rattle.market_reader.specs.Held.{Held, Orders, priorities}
+use Rattle.market_reader.specs.Held.{Held, Orders}
 use Rattle.market_reader.specs.Keeping.{Records, OrdersHeld, Holds, OrdersRight, SoundMarket}
 use Rattle.market_reader.proofs.Holding.{about_each}
 use Rattle.market_reader.proofs.Recording.{Fits, fits_entries, fits_each, said, as_many}

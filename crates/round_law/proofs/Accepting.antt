@@ -2,7 +2,7 @@
 use Rattle.std.proofs.Common.{◌≡◌, ℕ, ◌≤◌, Bool, true, false, not, ◌&&◌, eqb, leb, List, [], ◌∷◌, length, None, Option, refl, ap, inl, inr}
 use Rattle.std.proofs.lemmas.List.{length-map}
 use Rattle.std.proofs.lemmas.Bool.{both_ways, cases_Bool, and_parts, and_from, eqb-true, eqb-false, eq-eqb, ne_eqb, leb-true, le-leb}
-use Rattle.std.specs.List.{AllByRecursion as All}
+use Rattle.std.specs.List.{AllByRecursion}
 use Rattle.market.proofs.Pigeonhole.{Apart, UpTo, apart, distinct, no_more}
 use Rattle.market.specs.declared.place.Place.{Place}
 use Rattle.market.specs.declared.refusal.Refusal.{Refusal}
@@ -27,11 +27,11 @@ range_parts low high x e = let p = and_parts (leb low x) (leb x high) e in (leb-
 range_from : (low high x : ℕ) → low ≤ x → x ≤ high → in_range low high x ≡ true
 range_from low high x l h = and_from (leb low x) (leb x high) (le-leb low x l) (le-leb x high h)
 
-all_of_parts : {X : Type 0} (P : X → Type 0) (test : X → Bool) → ((x : X) → test x ≡ true → P x) → (xs : List X) → all_of test xs ≡ true → All P xs
+all_of_parts : {X : Type 0} (P : X → Type 0) (test : X → Bool) → ((x : X) → test x ≡ true → P x) → (xs : List X) → all_of test xs ≡ true → AllByRecursion P xs
 all_of_parts P test tells [] e = tt
 all_of_parts P test tells (x ∷ xs) e = let p = and_parts (test x) (all_of test xs) e in (tells x p.0, all_of_parts P test tells xs p.1)
 
-all_of_from : {X : Type 0} (P : X → Type 0) (test : X → Bool) → ((x : X) → P x → test x ≡ true) → (xs : List X) → All P xs → all_of test xs ≡ true
+all_of_from : {X : Type 0} (P : X → Type 0) (test : X → Bool) → ((x : X) → P x → test x ≡ true) → (xs : List X) → AllByRecursion P xs → all_of test xs ≡ true
 all_of_from P test passes [] all = refl
 all_of_from P test passes (x ∷ xs) all = and_from (test x) (all_of test xs) (passes x all.0) (all_of_from P test passes xs all.1)
 
@@ -58,7 +58,7 @@ apart_twice : (r : Ranking) → Apart (place_numbers r) → none_twice r ≡ tru
 apart_twice [] d = refl
 apart_twice (p ∷ r) d = and_from (not (lists r p)) (none_twice r) (ap not (absent_listed r p d.0)) (apart_twice r d.1)
 
-up_to : (m : ℕ) (r : Ranking) → All (PlaceIn m) r → All (UpTo m) (place_numbers r)
+up_to : (m : ℕ) (r : Ranking) → AllByRecursion (PlaceIn m) r → AllByRecursion (UpTo m) (place_numbers r)
 up_to m [] all = tt
 up_to m (p ∷ r) all = ((all.0.from_one, all.0.in_range), up_to m r all.1)
 

@@ -1,7 +1,7 @@
 -- The cycle that a call trades: that it is one, that it is found where there is one, and that there is only one.
 use Rattle.std.proofs.Common.{◌≡◌, ℕ, zero, suc, ◌+◌, ◌-◌, ◌<◌, ◌≤◌, true, false, ◌⊎◌, List, [], ◌∷◌, length, Some, None, Option, sym, refl, ap, ◌∙◌, subst, inl, inr, arith}
 use Rattle.std.proofs.lemmas.Bool.{both_ways, cases_Bool}
-use Rattle.std.specs.List.{AllByRecursion as All}
+use Rattle.std.specs.List.{AllByRecursion}
 use Rattle.market.specs.declared.agent.Agent.{Agent}
 use Rattle.market.specs.Rows.{Row, Waits, NobodyWaits}
 use Rattle.market.specs.Rules.{Lawful}
@@ -90,7 +90,7 @@ module _ (M : Economy) (R : Profile) {A : Row} (law : Lawful (terms_of M)) (prop
       let d = cycle_is_found M R A c (lowest a c) law proper f.0 (lowest_inside a c i) in
       let g = through_is_cycle M R law proper (lowest a c) d.0 d.1 in
       let rest = g.1.0 in
-      let all : All (λ b. (lowest a c).number ≤ b.number) rest = all_among (λ b. (lowest a c).number ≤ b.number) rest
+      let all : AllByRecursion (λ b. (lowest a c).number ≤ b.number) rest = all_among (λ b. (lowest a c).number ≤ b.number) rest
       (λ m n. lowest_le a c m (sym (d.2 m) ∙ subst (λ (x : List Agent). among x m ≡ true) (sym g.1.1) (among_more (lowest a c) rest m n))) in
       (d.0, d.1, g.0, d.2 a ∙ i, subst FromLowest (sym g.1.1) all)
 

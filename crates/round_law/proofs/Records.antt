@@ -1,7 +1,7 @@
 -- The record: its lines are a run, they can be made longer, and everybody that departed is on them.
 use Rattle.std.proofs.Common.{◌≡◌, true, ◌⊎◌, List, [], ◌∷◌, ◌++◌, map, Option, sym, refl, ap, ◌∙◌, subst, inl, inr}
 use Rattle.std.proofs.lemmas.Bool.{cases_Bool}
-use Rattle.std.specs.List.{AllByRecursion as All}
+use Rattle.std.specs.List.{AllByRecursion}
 use Rattle.market.specs.declared.agent.Agent.{Agent}
 use Rattle.market.specs.declared.place.Place.{Place}
 use Rattle.market.specs.Rows.{Row, Waits, standing}
@@ -31,7 +31,7 @@ module _ (M : Economy) (R : Profile) (A : Row) where
   abbrev member : Agent → Member
   member a = record { agent = a; place = points_at M R A a }
 
-  took : (c : List Agent) → All (λ m. m.place ≡ points_at M R A m.agent) (members M R A c)
+  took : (c : List Agent) → AllByRecursion (λ m. m.place ≡ points_at M R A m.agent) (members M R A c)
   took [] = tt
   took (a ∷ c) = (refl, took c)
 
@@ -79,7 +79,7 @@ module _ {M : Economy} {R : Profile} where
   ]
 
   -- Everybody on a line stands in the last row as departed with the place recorded.
-  pub lines_seats : {A E : Row} {lines : List (List Member)} → Lines M R A lines E → All (All (λ m. standing E m.agent ≡ departed m.place)) lines
+  pub lines_seats : {A E : Row} {lines : List (List Member)} → Lines M R A lines E → AllByRecursion (AllByRecursion (λ m. standing E m.agent ≡ departed m.place)) lines
   lines_seats none = tt
   lines_seats {A} {E} (line ms l rest) = (both ms (all_among (λ a. standing E a ≡ departed (points_at M R A a)) (agents_of ms) stands) l.took, lines_seats rest)
     where
@@ -88,7 +88,7 @@ module _ {M : Economy} {R : Profile} where
           let got = trade_inside (cycle_circles l.cycle) a i in
           (exchanges_later (run_exchanges (lines_run rest))).kept a (λ w. departed_waits (points_at M R A a) (sym got ∙ w)) ∙ got
 
-      both : (ks : List Member) → All (λ a. standing E a ≡ departed (points_at M R A a)) (agents_of ks) → All (λ m. m.place ≡ points_at M R A m.agent) ks
-          → All (λ m. standing E m.agent ≡ departed m.place) ks
+      both : (ks : List Member) → AllByRecursion (λ a. standing E a ≡ departed (points_at M R A a)) (agents_of ks) → AllByRecursion (λ m. m.place ≡ points_at M R A m.agent) ks
+          → AllByRecursion (λ m. standing E m.agent ≡ departed m.place) ks
       both [] s t = tt
       both (k ∷ ks) s t = (s.0 ∙ ap departed (sym t.0), both ks s.1 t.1)

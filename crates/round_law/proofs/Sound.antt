@@ -3,7 +3,7 @@ use Rattle.std.proofs.Common.{◌≡◌, ℕ, zero, suc, ◌-◌, ◌≤◌, ◌
 use Rattle.std.proofs.ByRecursion.{All-set}
 use Rattle.std.proofs.lemmas.List.{length-replicate, length-set}
 use Rattle.std.proofs.lemmas.List.Sums.{count_by-le-length}
-use Rattle.std.specs.List.{AllByRecursion as All}
+use Rattle.std.specs.List.{AllByRecursion}
 use Rattle.market.specs.declared.agent.Agent.{Agent}
 use Rattle.market.specs.Data.{RankingOf}
 use Rattle.market.specs.Rows.{Row, is_waiting}
@@ -45,7 +45,7 @@ pub record Opened (T : Terms) (s : State) : Type 0 where
   pub past_blank : s.phase ≡ Blank → ⊥
   pub market : MarketFor T T.agents s.capacities
   pub agents : length s.rankings ≡ T.agents
-  pub rankings : All (RankingOf T.places) s.rankings
+  pub rankings : AllByRecursion (RankingOf T.places) s.rankings
   pub lines : Lines (economy_of T s) (profile s) (all_waiting T.agents) s.cycles s.row
   pub filing : s.phase ≡ Filing → (s.cycles ≡ []) × (s.row ≡ all_waiting T.agents)
   pub trading : s.phase ≡ Trading → 1 ≤ waiters s.row
@@ -60,7 +60,7 @@ module _ (T : Terms) (s : State) (o : Opened T s) where
 
 -- OPEN, FILE AND CLOSE
 
-none_ranked : (m n : ℕ) → All (RankingOf m) (replicate n [])
+none_ranked : (m n : ℕ) → AllByRecursion (RankingOf m) (replicate n [])
 none_ranked m zero = tt
 none_ranked m (suc n) = (record { known = tt; once = tt }, none_ranked m n)
 

@@ -2,7 +2,7 @@
 use Rattle.std.proofs.Common.{◌≡◌, ℕ, suc, ◌+◌, ◌*◌, ◌≤◌, List, [], ◌∷◌, ◌++◌, length, get_or, Some, None, decimal, Option, sym, refl, subst, inl, inr, arith}
 use Rattle.std.proofs.lemmas.Fmt.{length-decimal-le}
 use Rattle.std.proofs.lemmas.List.{length-append}
-use Rattle.std.specs.List.{AllByRecursion as All}
+use Rattle.std.specs.List.{AllByRecursion}
 use Rattle.market.specs.declared.place.Place.{Place}
 use Rattle.market.specs.declared.standing.Standing.{Standing}
 use Rattle.market.specs.declared.standing.Standing.TheVariants.{Waiting, Placed, Unplaced}
@@ -57,7 +57,7 @@ listing_short k (x ∷ A) few h = omega (
 abbrev Short : Member → Type 0
 Short m = (m.agent.number ≤ 200) × (length (seat_text m.place) ≤ 2)
 
-members_short : (ms : List Member) → All Short ms → length (members_text ms) ≤ 7 * length ms
+members_short : (ms : List Member) → AllByRecursion Short ms → length (members_text ms) ≤ 7 * length ms
 members_short [] all = omega arith
 members_short (m ∷ ms) all = omega (
   arith,
@@ -68,7 +68,7 @@ members_short (m ∷ ms) all = omega (
   members_short ms all.1,
 )
 
-audit_short : (k : ℕ) (lines : List (List Member)) → k + length lines ≤ 201 → All (All Short) lines → length (audit_from k lines) ≤ 5 * length lines + 7 * count_members lines
+audit_short : (k : ℕ) (lines : List (List Member)) → k + length lines ≤ 201 → AllByRecursion (AllByRecursion Short) lines → length (audit_from k lines) ≤ 5 * length lines + 7 * count_members lines
 audit_short k [] few all = omega arith
 audit_short k (ms ∷ lines) few all = omega (
   arith,
@@ -85,7 +85,7 @@ module _ (M : Economy) (R : Profile) (agents : M.agents ≤ 200) (places : lengt
   seat_short A None o = omega arith
   seat_short A (Some p) o = two_digits p.number (omega (arith, (room_known M A p o).in_range))
 
-  line_short : (A : Row) → RowIn M A → (ms : List Member) → All (Waits A) (agents_of ms) → All (λ m. m.place ≡ points_at M R A m.agent) ms → All Short ms
+  line_short : (A : Row) → RowIn M A → (ms : List Member) → AllByRecursion (Waits A) (agents_of ms) → AllByRecursion (λ m. m.place ≡ points_at M R A m.agent) ms → AllByRecursion Short ms
   line_short A proper [] w t = tt
   line_short A proper (m ∷ ms) w t = (
     (
@@ -95,7 +95,7 @@ module _ (M : Economy) (R : Profile) (agents : M.agents ≤ 200) (places : lengt
     line_short A proper ms w.1 t.1,
   )
 
-  lines_short : {A E : Row} {lines : List (List Member)} → RowIn M A → Lines M R A lines E → All (All Short) lines
+  lines_short : {A E : Row} {lines : List (List Member)} → RowIn M A → Lines M R A lines E → AllByRecursion (AllByRecursion Short) lines
   lines_short proper none = tt
   lines_short {A} proper (line ms l rest) = (line_short A proper ms l.cycle.waiting l.took, lines_short (trade_proper (cycle_circles l.cycle) proper) rest)
 

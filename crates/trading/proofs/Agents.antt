@@ -1,7 +1,7 @@
 -- Agents in lists: who is among them, and that none stands twice.
 use Rattle.std.proofs.Common.{◌≡◌, ℕ, true, false, ◌⊎◌, List, [], ◌∷◌, ◌++◌, map, sym, refl, ap, subst, inl, inr}
 use Rattle.std.proofs.lemmas.Bool.{both_ways, eqb-true, eqb-false, eq-eqb, ne_eqb, cases_Bool}
-use Rattle.std.specs.List.{AllByRecursion as All}
+use Rattle.std.specs.List.{AllByRecursion}
 use Rattle.market.proofs.Pigeonhole.{Apart}
 use Rattle.market.specs.declared.agent.Agent.{Agent}
 use Rattle.market.specs.Data.{agent_numbers}
@@ -24,11 +24,11 @@ among_first b c = rw (eq-eqb b.number b.number refl)
 pub among_more : (b : Agent) (c : List Agent) (a : Agent) → among c a ≡ true → among (b ∷ c) a ≡ true
 among_more b c a e = elim (cases_Bool (same_agent b a)) [ inl s ↦ rw s | inr s ↦ rw s e ]
 
-pub among_all : (P : Agent → Type 0) (c : List Agent) (a : Agent) → All P c → among c a ≡ true → P a
+pub among_all : (P : Agent → Type 0) (c : List Agent) (a : Agent) → AllByRecursion P c → among c a ≡ true → P a
 among_all P [] a all e = absurd (both_ways false refl e)
 among_all P (b ∷ c) a all e = elim (among_cases b c a e) [ inl s ↦ subst P s all.0 | inr m ↦ among_all P c a all.1 m ]
 
-pub all_among : (P : Agent → Type 0) (c : List Agent) → ((a : Agent) → among c a ≡ true → P a) → All P c
+pub all_among : (P : Agent → Type 0) (c : List Agent) → ((a : Agent) → among c a ≡ true → P a) → AllByRecursion P c
 all_among P [] each = tt
 all_among P (b ∷ c) each = (each b (among_first b c), all_among P c (λ a m. each a (among_more b c a m)))
 

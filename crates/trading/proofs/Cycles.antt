@@ -1,7 +1,7 @@
 -- Cycles as lists: their members are a group that is made of cycles.
 use Rattle.std.proofs.Common.{◌≡◌, ℕ, zero, suc, ◌+◌, Bool, true, false, List, [], ◌∷◌, ◌++◌, map, length, Some, None, Option, sym, refl, ap, ◌∙◌, subst, inl, inr, arith}
 use Rattle.std.proofs.lemmas.Bool.{both_ways}
-use Rattle.std.specs.List.{AllByRecursion as All}
+use Rattle.std.specs.List.{AllByRecursion}
 use Rattle.market.proofs.Pigeonhole.{apart, distinct}
 use Rattle.market.specs.declared.agent.Agent.{Agent}
 use Rattle.market.specs.declared.place.Place.{Place}
@@ -134,7 +134,7 @@ module _ {M : Economy} {R : Profile} {A : Row} where
   pub cycle_different : {c : List Agent} → Cycle M R A c → Different c
   cycle_different {c} y = apart_different c (apart (agent_numbers c) y.different)
 
-  pub linked_cycle : {c : List Agent} → Different c → All (Waits A) c → Linked (next M R A) c → Cycle M R A c
+  pub linked_cycle : {c : List Agent} → Different c → AllByRecursion (Waits A) c → Linked (next M R A) c → Cycle M R A c
   linked_cycle {c} d w l = record { different = distinct (agent_numbers c) (different_apart c d); waiting = w; closes = linked_closes M R A c d l }
 
 module _ {M : Economy} {R : Profile} where

@@ -3,7 +3,7 @@ use Rattle.std.proofs.Common.{◌≡◌, ℕ, zero, suc, ◌+◌, ◌<◌, ◌�
 use Rattle.std.proofs.lemmas.List.{length-map}
 use Rattle.std.proofs.lemmas.Bool.{both_ways, eq-eqb, ne_eqb, cases_Bool}
 use Rattle.std.specs.Option.{option_map}
-use Rattle.std.specs.List.{AllByRecursion as All}
+use Rattle.std.specs.List.{AllByRecursion}
 use Rattle.market.proofs.Pigeonhole.{UpTo, no_more}
 use Rattle.market.specs.declared.agent.Agent.{Agent}
 use Rattle.market.specs.Data.{agent_numbers}
@@ -48,7 +48,7 @@ module _ {f : Agent → Agent} {a : Agent} where
   path_linked (arrives e) = ([], refl, ap (λ (x : Agent). x ∷ []) e)
   path_linked {b} (onward {c} n p) = let r = path_linked p in (c, refl, ap (λ (x : List Agent). f b ∷ x) r.2 ∙ ap (λ (x : List Agent). x ++ a ∷ []) (sym r.1))
 
-  pub path_all : (P : Agent → Type 0) → ((b : Agent) → P b → P (f b)) → {b : Agent} {c : List Agent} → P b → PathTo f a b c → All P c
+  pub path_all : (P : Agent → Type 0) → ((b : Agent) → P b → P (f b)) → {b : Agent} {c : List Agent} → P b → PathTo f a b c → AllByRecursion P c
   path_all P closed h (arrives e) = (h, tt)
   path_all P closed {b} h (onward n p) = (h, path_all P closed (closed b h) p)
 
@@ -92,7 +92,7 @@ module _ {f : Agent → Agent} {a : Agent} where
 
 -- PIGEONHOLES: different agents that wait are no more than the row has agents
 
-waiters_up : (A : Row) (c : List Agent) → ((a : Agent) → among c a ≡ true → Waits A a) → All (UpTo (length A)) (agent_numbers c)
+waiters_up : (A : Row) (c : List Agent) → ((a : Agent) → among c a ≡ true → Waits A a) → AllByRecursion (UpTo (length A)) (agent_numbers c)
 waiters_up A [] w = tt
 waiters_up A (b ∷ c) w = let i = waiter_in A b (w b (among_first b c)) in ((i.from_one, i.in_range), waiters_up A c (λ a m. w a (among_more b c a m)))
 
