@@ -29,7 +29,7 @@ use Rattle.market_reader.proofs.Tables.{all_entries, all_told}
 
 -- ---- numbers as agents and places
 
--- AllByRecursion numbers of a line from place j on, where they count from 1 to n.
+-- All numbers of a line from place j on, where they count from 1 to n.
 all_range : (k : Kind) (z : Sizes) (n j : ℕ) (ns : List ℕ) → ((i : ℕ) → j ≤ i → (1 ≤ lowest k i) × (highest k z i ≤ n)) → InRange k z j ns → AllByRecursion (UpTo n) ns
 all_range k z n j [] h r = tt
 all_range k z n j (x ∷ ns) h r =
