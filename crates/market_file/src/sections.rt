@@ -2,7 +2,7 @@
 ghost use Rattle.std.specs.Prelude.{◌≡◌, ◌≤◌, length};
 ghost use Rattle.spelling.specs.Views.{lines_of};
 ghost use Rattle.market_file.specs.Contents.{kinds_of};
-ghost use Rattle.market_file.specs.Files.{broken as brokenAt, wrong_at, sections_checked};
+ghost use Rattle.market_file.specs.Files.{broken as broken_at, wrong_at, sections_checked};
 ghost use Rattle.market_file.specs.Ledgers.{known, blank};
 
 use crate::form::{Contents, Sizes};
@@ -14,7 +14,7 @@ use spelling::lines::Lines;
 
 /// A line is missing or extra.
 fn broken(line: usize) -> MarketFault
-    ensures { result ≡ brokenAt line 0 }
+    ensures { result ≡ broken_at line 0 }
 {
     MarketFault::Contents(Spot { line, word: 0 })
 }
