@@ -1,5 +1,6 @@
 // Files that offices might hand in, and what is printed of each.
 use crate::reply::Reply;
+use crate::reply::owners::OwnersReply;
 use std::process::Abort;
 use std::test::Fail;
 
@@ -260,8 +261,8 @@ fn sizes(rt: HostRuntime) -> Result<(), Fail> {
 }
 
 /// The answer to a file, with the owners, is a text.
-fn expect_owners(rt: &impl Abort, reply: &mut Reply, file: &[u8], text: &[u8]) {
-    reply.answer_with_owners(file);
+fn expect_owners(rt: &impl Abort, reply: &mut OwnersReply, file: &[u8], text: &[u8]) {
+    reply.answer(file);
     assert!(rt; reply.bytes() == text);
 }
 
@@ -285,7 +286,7 @@ fn owners_while_everybody_waits(rt: HostRuntime) -> Result<(), Fail> {
             b"ok 4 3\nowner 1 1\nowner 2 3\nowner 3 3\n",
         ),
     ];
-    let mut reply = Reply::with_room(rt.alloc())?;
+    let mut reply = OwnersReply::with_room(rt.alloc())?;
     for (file, text) in cases {
         expect_owners(&rt, &mut reply, file, text);
     }

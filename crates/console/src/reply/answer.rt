@@ -1,8 +1,7 @@
 // Making room for answers, answering, and what was answered.
 ghost use Rattle.std.specs.Prelude.{◌≡◌, [], IfOk};
-ghost use Rattle.market_reader.specs.Held.{nothing};
 ghost use Rattle.console.specs.Printed.{verdict};
-ghost use Rattle.console.specs.Replies.{replied, last_market};
+ghost use Rattle.console.specs.Replies.{replied};
 ghost use Rattle.console.specs.Verdicts.{Tells};
 
 use super::Reply;
@@ -11,37 +10,24 @@ use crate::ok_text::put_ok;
 use market_file::file::check_form;
 use market_file::ledger::Ledger;
 use market_lines::report::{Fault, Source};
-use market_reader::record::Market;
 use std::alloc::{AllocError, Global};
 
 /// Enough for the longest answer: a fault's line of at most 80 bytes, a faulty line of at most 65,535, a line feed.
 const ROOM: usize = 65_700;
 
-/// The most agents of a market.
-const MOST_AGENTS: usize = 200;
-
 impl Reply {
     /// Makes the room. This alone can fail, and only for want of memory.
     pub fn with_room(heap: Global) -> Result<Reply, AllocError>
-        ensures text { IfOk result (λ reply. replied reply ≡ []) }
-        ensures market { IfOk result (λ reply. last_market reply ≡ nothing) }
+        ensures { IfOk result (λ reply. replied reply ≡ []) }
     {
         let text = Vec::with_capacity(heap, ROOM)?;
         let ledger = Ledger::with_room(heap)?;
-        let market = Market::with_room(heap)?;
-        let row = Vec::with_capacity(heap, MOST_AGENTS)?;
-        Ok(Reply {
-            text,
-            ledger,
-            market,
-            row,
-        })
+        Ok(Reply { text, ledger })
     }
 
-    /// Answers a market file: with its first fault, or with `ok` and its sizes. The last market stays as it was.
+    /// Answers a market file: with its first fault, or with `ok` and its sizes.
     pub fn answer(&mut self, market: &[u8])
         ensures text { replied self.new ≡ verdict market.now }
-        ensures market { last_market self.new ≡ last_market self.old }
         ensures law { Tells market.now (replied self.new) }
     {
         self.text.clear();

@@ -1,4 +1,4 @@
-use Rattle.std.proofs.Common.{◌≡◌, ◌++◌, Err, vec_items, refl, ap, ◌∙◌, arith}
+use Rattle.std.proofs.Common.{◌≡◌, ◌++◌, Err, vec_items, ap, ◌∙◌, arith}
 use Rattle.console.specs.Printed.{ok_text, verdict_of, verdict}
 use Rattle.console.proofs.Judging.{fault_fits, tells}
 use Rattle.console.proofs.reply.Reply.answer.Goals as goal
@@ -15,7 +15,7 @@ returns-in-Ok c =
     ∙ ap (λ l. l ++ ok_text c.in-Ok.form.sizes) c.clear.ensures.items
     ∙ ap (verdict_of market) c.in-Ok.ensures.value
     in
-    record { text = e; market = refl; law = tells market _ e }
+    record { text = e; law = tells market _ e }
 
 pub returns-in-Err : goal.returns-in-Err
 returns-in-Err c =
@@ -25,4 +25,4 @@ returns-in-Err c =
     ∙ ap (λ l. l ++ verdict_of market (Err c.in-Err.fault)) c.clear.ensures.items
     ∙ ap (verdict_of market) c.in-Err.ensures.value
     in
-    record { text = e; market = refl; law = tells market _ e }
+    record { text = e; law = tells market _ e }

@@ -4,11 +4,11 @@ use Rattle.market_reader.specs.Markets.{market_read}
 use Rattle.market_reader.proofs.Lawful.{answered_read}
 use Rattle.console.specs.Printed.{market_text, owners_verdict_of, owners_verdict}
 use Rattle.console.proofs.Judging.{owners_fault_fits, tells_owners}
-use Rattle.console.proofs.reply.Reply.answer_with_owners.Goals as goal
+use Rattle.console.proofs.reply.owners.OwnersReply.answer.Goals as goal
 
 pub put_fault-requires : goal.put_fault-requires
 put_fault-requires c =
-    omega (arith, c.clear.ensures.len, c.clear.ensures.capacity, c.args.self.now.room, owners_fault_fits c.args.market.now c.in-Err.fault c.in-Err.ensures.law)
+    omega (arith, c.clear.ensures.len, c.clear.ensures.capacity, c.args.self.now.reply.room, owners_fault_fits c.args.market.now c.in-Err.fault c.in-Err.ensures.law)
 
 pub put_market-requires : goal.put_market-requires
 put_market-requires c =
@@ -16,7 +16,7 @@ put_market-requires c =
     let h = held c.read_market.new.market in
     record {
       sound = law.right h (law.sound h refl);
-      room = omega (arith, c.clear.ensures.len, c.clear.ensures.capacity, c.args.self.now.room);
+      room = omega (arith, c.clear.ensures.len, c.clear.ensures.capacity, c.args.self.now.reply.room);
       agents = c.args.self.now.agents;
     }
 
