@@ -1,5 +1,5 @@
 -- What the verdict on a market file tells, and that it fits its room. Assumes nothing.
-use Rattle.std.proofs.Common.{◌≡◌, ℕ, zero, suc, ◌≤◌, true, false, cond, eqb, List, [], ◌∷◌, ◌++◌, length, Err, codes, decimal, unwrap_or, sym, refl, ap, ◌∙◌, subst, inl, inr, arith}
+use Rattle.std.proofs.Common.{◌≡◌, ℕ, zero, suc, ◌≤◌, true, false, cond, eqb, List, [], ◌∷◌, ◌++◌, ◌⊎◌, length, Err, codes, decimal, unwrap_or, sym, refl, ap, ◌∙◌, subst, inl, inr, arith}
 use Rattle.std.proofs.lemmas.Fmt.{decimal_digit}
 use Rattle.std.proofs.ByRecursion.{All-weaker}
 use Rattle.std.specs.List.{slice_get, AllByRecursion}
@@ -11,10 +11,13 @@ use Rattle.market_lines.specs.declared.report.Source.TheVariants as source
 use Rattle.market_lines.specs.Causes.{fault_line}
 use Rattle.market_lines.specs.Reports.{line_or, faulty_line}
 use Rattle.market_file.specs.Files.{file_form}
-use Rattle.market_file.specs.Keeping.{FormLaw}
+use Rattle.market_file.specs.Keeping.{FormLaw, BrokenForm, Sized}
 use Rattle.market_file.proofs.Lawful.{form_law}
-use Rattle.console.specs.Printed.{verdict_of, verdict}
-use Rattle.console.specs.Verdicts.{Tells}
+use Rattle.market_reader.specs.Keeping.{MarketLaw}
+use Rattle.market_reader.specs.Markets.{market_read}
+use Rattle.market_reader.proofs.Lawful.{market_law}
+use Rattle.console.specs.Printed.{verdict_of, verdict, owners_verdict_of, owners_verdict}
+use Rattle.console.specs.Verdicts.{Tells, TellsOwners}
 
 -- ---- the room
 
@@ -42,12 +45,20 @@ line_short file zero = omega arith
 line_short file (suc k) = nth_short (length file) (lines file) k (lines_short file)
 
 -- The faulty line of a file has at most 65,535 bytes.
-pub fault_fits : (market : List ℕ) (e : MarketFault) → FormLaw market (Err e) → length (faulty_line market [] (record { source = source.Market; fault = e })) ≤ 65535
-fault_fits market e h =
-    elim (h.first e refl) [
+first_fits : (market : List ℕ) (e : MarketFault) → ((e ≡ Size) × (Sized market → ⊥)) ⊎ (Sized market × BrokenForm (lines market) e) → length (faulty_line market [] (record { source = source.Market; fault = e })) ≤ 65535
+first_fits market e h =
+    elim h [
       | inl size ↦ subst (λ x. length (line_or market (fault_line x)) ≤ 65535) (sym size.0) (omega arith)
       | inr broken ↦ omega (arith, broken.0.1, line_short market (fault_line e))
     ]
+
+-- So it is where the form was checked.
+pub fault_fits : (market : List ℕ) (e : MarketFault) → FormLaw market (Err e) → length (faulty_line market [] (record { source = source.Market; fault = e })) ≤ 65535
+fault_fits market e h = first_fits market e (h.first e refl)
+
+-- So it is where the market was read.
+pub owners_fault_fits : (market : List ℕ) (e : MarketFault) → MarketLaw market (Err e) → length (faulty_line market [] (record { source = source.Market; fault = e })) ≤ 65535
+owners_fault_fits market e h = first_fits market e (h.first e refl)
 
 -- ---- what it tells
 
@@ -68,4 +79,14 @@ tells market text e =
       size = λ bad. e ∙ ap (verdict_of market) (known.outside bad) ∙ size_text market;
       kept = λ f s k. e ∙ ap (verdict_of market) (known.complete f s k);
       broken = λ x s b. e ∙ ap (verdict_of market) (known.named x s b);
+    }
+
+-- The same of the verdict with the owners.
+pub tells_owners : (market text : List ℕ) → text ≡ owners_verdict market → TellsOwners market text
+tells_owners market text e =
+    let known = market_law market (market_read market) refl in
+    record {
+      size = λ bad. e ∙ ap (owners_verdict_of market) (known.outside bad) ∙ size_text market;
+      kept = λ h k. e ∙ ap (owners_verdict_of market) (known.complete h k);
+      broken = λ x s b. e ∙ ap (owners_verdict_of market) (known.named x s b);
     }

@@ -1,3 +1,4 @@
+pub mod OwnersReplies
 pub mod Printed
 pub mod Replies
 pub mod Verdicts

@@ -1,6 +1,9 @@
 -- What the program prints of a market file, byte by byte.
-use Rattle.std.specs.Prelude.{ℕ, List, [], ◌∷◌, ◌++◌, Ok, Err, codes, Result}
+use Rattle.std.specs.Prelude.{ℕ, zero, suc, List, [], ◌∷◌, ◌++◌, replicate, Ok, Err, codes, Result}
 use Rattle.spelling.specs.Grammar.{spell}
+use Rattle.market.specs.declared.standing.Standing.TheVariants.{Waiting}
+use Rattle.market.specs.Rows.{Row}
+use Rattle.market.specs.Rules.{Terms}
 use Rattle.market_lines.specs.declared.fault.Layer.{Layer}
 use Rattle.market_lines.specs.declared.fault.Layer.TheVariants as layer
 use Rattle.market_lines.specs.declared.fault.MarketFault.{MarketFault}
@@ -13,6 +16,9 @@ use Rattle.market_file.specs.declared.form.Form.{Form}
 use Rattle.market_file.specs.declared.form.Sizes.{Sizes}
 use Rattle.market_file.specs.Files.{file_form}
 use Rattle.market_file.specs.Keeping.{sizes_line}
+use Rattle.market_reader.specs.Held.{Held}
+use Rattle.market_reader.specs.Markets.{market_read}
+use Rattle.piles.specs.Piles.{pile_terms}
 
 -- The letter of the file that has a fault: m for the market, s for the session.
 abbrev pub source_letter : Source → ℕ
@@ -49,3 +55,29 @@ verdict_of market (Err e) = fault_text market [] (record { source = source.Marke
 -- What is printed of a market file.
 abbrev pub verdict : List ℕ → List ℕ
 verdict market = verdict_of market (file_form market)
+
+-- A line: a name and two numbers.
+abbrev pub pair_text : List ℕ → ℕ → ℕ → List ℕ
+pair_text name a b = name ++ (spell (a ∷ b ∷ []) ++ 10 ∷ [])
+
+-- The owners of so many places from the place k on, in a row, each on a line with its place.
+abbrev pub owners_from : Terms → Row → ℕ → ℕ → List ℕ
+owners_from T A k zero = []
+owners_from T A k (suc n) = pair_text (codes "owner") k (T.owner A (record { number = k })).number ++ owners_from T A (suc k) n
+
+-- The owner of each place in a row.
+abbrev pub owners_text : Terms → Row → List ℕ
+owners_text T A = owners_from T A 1 T.places
+
+-- What is printed of a market: ok, the number of agents and the number of places, and the owner of each place by the market's rules while everybody waits.
+abbrev pub market_text : Held → List ℕ
+market_text h = pair_text (codes "ok") h.agents h.places ++ owners_text (pile_terms h) (replicate h.agents Waiting)
+
+-- What is printed, with the owners, of a file that was read.
+abbrev pub owners_verdict_of : List ℕ → Result Held MarketFault → List ℕ
+owners_verdict_of market (Ok h) = market_text h
+owners_verdict_of market (Err e) = fault_text market [] (record { source = source.Market; fault = e })
+
+-- What is printed, with the owners, of a market file.
+abbrev pub owners_verdict : List ℕ → List ℕ
+owners_verdict market = owners_verdict_of market (market_read market)

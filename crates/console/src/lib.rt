@@ -2,6 +2,7 @@
 #![tactic(auto)]
 
 mod fault_text;
+mod market_text;
 mod ok_text;
 mod put;
 pub mod reply;

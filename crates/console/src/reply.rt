@@ -4,6 +4,7 @@ ghost use Rattle.std.specs.Prelude.{◌≤◌, vec_capacity};
 use market_file::ledger::Ledger;
 
 mod answer;
+pub mod owners;
 
 /// Room for any answer and for the check of a file, and the last answer in it.
 #[derive(Drop)]

@@ -1,5 +1,6 @@
 // Files that offices might hand in, and what is printed of each.
 use crate::reply::Reply;
+use crate::reply::owners::OwnersReply;
 use std::process::Abort;
 use std::test::Fail;
 
@@ -256,5 +257,38 @@ fn sizes(rt: HostRuntime) -> Result<(), Fail> {
     expect(&rt, &mut reply, file.as_slice(), b"E m word 1 2 0\n\n");
     file.push(b'\n')?;
     expect(&rt, &mut reply, file.as_slice(), b"E m market 8 0 0\n\n");
+    Ok(())
+}
+
+/// The answer to a file, with the owners, is a text.
+fn expect_owners(rt: &impl Abort, reply: &mut OwnersReply, file: &[u8], text: &[u8]) {
+    reply.answer(file);
+    assert!(rt; reply.bytes() == text);
+}
+
+#[test]
+fn owners_while_everybody_waits(rt: HostRuntime) -> Result<(), Fail> {
+    let cases: [(&[u8], &[u8]); 4] = [
+        (
+            b"M 4 3\nC 3 1 0 0 1 4\nS 1 1\nS 2 1\nS 3 2\nQ 1 2 3 4\nT 2 3\nR 1 2 1\nR 2 1 3\nR 3 1 2\nR 4 1",
+            b"ok 4 3\nowner 1 1\nowner 2 3\nowner 3 1\n",
+        ),
+        (
+            b"M 3 2\nC 2 0 2 0 0 0\nS 1 1\nS 2 1\nP 2 2 1 3\nP 1 3 1 2",
+            b"ok 3 2\nowner 1 3\nowner 2 2\n",
+        ),
+        (
+            b"M 4 3\nC 3 1 0 2 0 0\nS 1 2\nS 2 1\nS 3 1\nQ 2 1 4 3\nH 1 0 0 1\nH 3 0 0 4",
+            b"ok 4 3\nowner 1 1\nowner 2 2\nowner 3 4\n",
+        ),
+        (
+            b"M 4 3\nC 3 1 0 2 2 0\nS 1 2\nS 2 1\nS 3 1\nQ 2 1 4 3\nH 1 0 0 1\nH 3 0 0 4\nT 2 3\nT 3 3",
+            b"ok 4 3\nowner 1 1\nowner 2 3\nowner 3 3\n",
+        ),
+    ];
+    let mut reply = OwnersReply::with_room(rt.alloc())?;
+    for (file, text) in cases {
+        expect_owners(&rt, &mut reply, file, text);
+    }
     Ok(())
 }
