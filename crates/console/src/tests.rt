@@ -268,7 +268,28 @@ fn expect_owners(rt: &impl Abort, reply: &mut OwnersReply, file: &[u8], text: &[
 
 #[test]
 fn owners_while_everybody_waits(rt: HostRuntime) -> Result<(), Fail> {
-    let cases: [(&[u8], &[u8]); 4] = [
+    let cases: [(&[u8], &[u8]); 10] = [
+        (b"M 1 1\nC 1 1 0 0 0 0\nS 1 1\nQ 1", b"ok 1 1\nowner 1 1\n"),
+        (
+            b"M 1 1\nC 1 1 0 0 0 0\nS 1 1\nQ 1\n",
+            b"ok 1 1\nowner 1 1\n",
+        ),
+        (
+            b"M 2 1\nC 1 0 1 1 1 1\nS 1 200\nP 1 1 2\nH 1 0 0 1\nT 1 2\nR 2",
+            b"ok 2 1\nowner 1 2\n",
+        ),
+        (
+            b"M 2 2\nC 2 1 0 0 2 0\nS 2 1\nS 1 2\nQ 2 1\nT 2 1\nT 1 1",
+            b"ok 2 2\nowner 1 1\nowner 2 1\n",
+        ),
+        (
+            b"M 1 2\nC 2 1 0 3 0 0\nS 1 1\nS 2 2\nQ 1\nH 1 0 0 1\nH 1 1 2 1\nH 1 2 0 1",
+            b"ok 1 2\nowner 1 1\nowner 2 1\n",
+        ),
+        (
+            b"M 2 2\nC 2 1 0 0 0 2\nS 1 1\nS 2 2\nQ 1 2\nR 2 2 1\nR 1",
+            b"ok 2 2\nowner 1 1\nowner 2 1\n",
+        ),
         (
             b"M 4 3\nC 3 1 0 0 1 4\nS 1 1\nS 2 1\nS 3 2\nQ 1 2 3 4\nT 2 3\nR 1 2 1\nR 2 1 3\nR 3 1 2\nR 4 1",
             b"ok 4 3\nowner 1 1\nowner 2 3\nowner 3 1\n",
