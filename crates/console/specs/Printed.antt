@@ -13,7 +13,7 @@ use Rattle.market_lines.specs.declared.report.Source.TheVariants as source
 use Rattle.market_lines.specs.Causes.{market_cause, layer_of, fault_line, fault_word}
 use Rattle.market_lines.specs.Reports.{faulty_line}
 use Rattle.market_file.specs.declared.form.Form.{Form}
-use Rattle.market_file.specs.declared.form.Sizes.{Sizes}
+use Rattle.market.specs.declared.sizes.Sizes.{Sizes}
 use Rattle.market_file.specs.Files.{file_form}
 use Rattle.market_file.specs.Keeping.{sizes_line}
 use Rattle.market_reader.specs.Held.{Held}

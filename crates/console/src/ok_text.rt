@@ -3,7 +3,7 @@ ghost use Rattle.std.specs.Prelude.{◌≡◌, ◌+◌, ◌≤◌, ◌++◌, vec
 ghost use Rattle.console.specs.Printed.{ok_text};
 
 use crate::put::{put, put_word};
-use market_file::form::Sizes;
+use market::sizes::Sizes;
 
 /// Puts `ok` and the sizes of the market.
 pub(crate) fn put_ok(out: &mut Vec<u8>, sizes: Sizes)

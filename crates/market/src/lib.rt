@@ -5,5 +5,6 @@ pub mod agent;
 pub mod node;
 pub mod place;
 pub mod refusal;
+pub mod sizes;
 pub mod standing;
 pub mod tenant;

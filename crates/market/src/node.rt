@@ -1,4 +1,7 @@
 // Nodes of inheritance trees: who inherits a place.
+ghost use Rattle.std.specs.Prelude.{◌≡◌};
+ghost use Rattle.market.specs.Nodes.{branch_of, is_node, parent_fits};
+
 use crate::agent::Agent;
 use crate::place::Place;
 
@@ -10,4 +13,46 @@ pub struct Node {
     pub parent: u16,
     pub took: u16,
     pub heir: Agent,
+}
+
+/// Where a node stands in the trees: its place, its parent and its took number. No two nodes stand alike.
+#[derive(Clone, Copy, Debug, PartialEq, Eq)]
+pub struct Branch {
+    pub place: Place,
+    pub parent: u16,
+    pub took: u16,
+}
+
+impl Node {
+    /// Where the node stands.
+    pub fn branch(&self) -> Branch
+        ensures { result ≡ branch_of self.now }
+    {
+        Branch {
+            place: self.place,
+            parent: self.parent,
+            took: self.took,
+        }
+    }
+
+    /// Whether the node stands there.
+    pub fn is_at(&self, branch: Branch) -> bool
+        ensures { result ≡ is_node branch.place.number branch.parent branch.took self.now }
+    {
+        self.branch() == branch
+    }
+}
+
+impl Branch {
+    /// Whether the parent is 0, with took number 0, or the number of an earlier node of the same place.
+    pub fn fits(self, earlier: &[Node]) -> bool
+        ensures { result ≡ parent_fits earlier.now self.place.number self.parent self.took }
+    {
+        match self.parent.checked_sub(1) {
+            None => self.took == 0,
+            Some(index) => earlier
+                .get(usize::from(index))
+                .is_some_and(|node| node.place == self.place),
+        }
+    }
 }

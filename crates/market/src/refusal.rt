@@ -6,29 +6,29 @@ ghost use Rattle.market.specs.Refusals.{refusal_number};
 #[derive(Clone, Copy, Debug, PartialEq, Eq)]
 pub enum Refusal {
     /// The phase of the round does not allow the call.
-    Phase,
+    Phase = 11,
     /// The numbers of agents or places are out of range, or not those of the rule.
-    Sizes,
+    Sizes = 12,
     /// A capacity is out of range.
-    Capacity,
+    Capacity = 13,
     /// There is no such agent.
-    Agent,
+    Agent = 14,
     /// A list has more places than there are.
-    Length,
+    Length = 15,
     /// There is no such place.
-    Place,
+    Place = 16,
     /// A place is listed twice.
-    Repeat,
+    Repeat = 17,
     /// The agent has departed.
-    Departed,
+    Departed = 18,
     /// No cycle of the present row passes through the agent.
-    Cycle,
+    Cycle = 19,
     /// The buffer is shorter than the text.
-    Buffer,
+    Buffer = 20,
     /// The owner question is not proper.
-    Question,
+    Question = 21,
     /// The data do not make a rule.
-    Rule,
+    Rule = 22,
 }
 
 impl Refusal {
@@ -36,19 +36,6 @@ impl Refusal {
     pub fn number(self) -> u8
         ensures { result ≡ refusal_number self }
     {
-        match self {
-            Refusal::Phase => 11,
-            Refusal::Sizes => 12,
-            Refusal::Capacity => 13,
-            Refusal::Agent => 14,
-            Refusal::Length => 15,
-            Refusal::Place => 16,
-            Refusal::Repeat => 17,
-            Refusal::Departed => 18,
-            Refusal::Cycle => 19,
-            Refusal::Buffer => 20,
-            Refusal::Question => 21,
-            Refusal::Rule => 22,
-        }
+        self as u8
     }
 }

@@ -15,7 +15,7 @@ use Rattle.market_lines.specs.Records.{Read}
 use Rattle.naming.specs.declared.fault.NameFault.{NameFault}
 use Rattle.naming.specs.Faults.{name_fault}
 use Rattle.market_file.specs.declared.form.Contents.{Contents}
-use Rattle.market_file.specs.declared.form.Sizes.{Sizes}
+use Rattle.market.specs.declared.sizes.Sizes.{Sizes}
 use Rattle.market_file.specs.Files.{placed, at_line, and_then, broken, numbers_at, wrong_at, named_at, sections_checked, sizes_read, contents_read, with_contents, with_sizes, form_read, sized, file_form}
 use Rattle.market_file.specs.FormedLines.{line_formed}
 use Rattle.market_file.specs.Keeping.{Sized}

@@ -10,7 +10,7 @@ use Rattle.spelling.specs.Reading.{unless, words_read}
 use Rattle.spelling.specs.Words.{malformed, numbers_in}
 use Rattle.spelling.proofs.Sentences.{reads_by_grammar}
 use Rattle.market_lines.proofs.Lettering.{line_by_grammar}
-use Rattle.market_file.specs.declared.form.Sizes.{Sizes}
+use Rattle.market.specs.declared.sizes.Sizes.{Sizes}
 use Rattle.market_file.specs.Bounds.{least_words, most_words, lowest, highest, within, misfit, count_fits, CountRight, InRange}
 use Rattle.market_file.specs.Files.{numbers_at}
 use Rattle.market_file.specs.FormedLines.{ranged, fitting, passed, fitted, line_formed, FormedLine, LeftmostOutside, BrokenLine, LineByForm}

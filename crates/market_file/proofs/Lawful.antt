@@ -10,7 +10,7 @@ use Rattle.market_lines.specs.declared.kind.Kind.TheVariants as kind
 use Rattle.market_lines.specs.Records.{Read}
 use Rattle.market_file.specs.declared.form.Contents.{Contents}
 use Rattle.market_file.specs.declared.form.Form.{Form}
-use Rattle.market_file.specs.declared.form.Sizes.{Sizes}
+use Rattle.market.specs.declared.sizes.Sizes.{Sizes}
 use Rattle.market_file.specs.Contents.{kinds_of, sizes_in, contents_in, wrong_count, RightContents}
 use Rattle.market_file.specs.Files.{sections_checked, unknown, sizes_from, rightly, contents_from, formed, with_contents, with_sizes, form_read, sized, file_form}
 use Rattle.market_file.specs.FormedLines.{line_formed, FormedLine}

@@ -6,7 +6,7 @@ use Rattle.market_lines.specs.declared.fault.LineFault.{LineFault}
 use Rattle.market_lines.specs.declared.kind.Kind.TheVariants as kind
 use Rattle.market_lines.specs.Records.{Read}
 use Rattle.market_file.specs.declared.form.Contents.{Contents}
-use Rattle.market_file.specs.declared.form.Sizes.{Sizes}
+use Rattle.market.specs.declared.sizes.Sizes.{Sizes}
 use Rattle.market_file.specs.Bounds.{InRange}
 use Rattle.market_file.specs.Contents.{kinds_of, sizes_in, contents_in, priorities_due, wrong_count, RightContents}
 use Rattle.market_file.specs.Files.{unknown, sizes_from, sizes_read, rightly, contents_from, contents_read}

@@ -9,7 +9,7 @@ use Rattle.naming.specs.declared.fault.NameFault.{NameFault}
 use Rattle.naming.specs.Faults.{name_fault}
 use Rattle.naming.specs.Laws.{NamesRightly, NamesWrongly, NamesLaw}
 use Rattle.naming.proofs.Naming.{names_law}
-use Rattle.market_file.specs.declared.form.Sizes.{Sizes}
+use Rattle.market.specs.declared.sizes.Sizes.{Sizes}
 use Rattle.market_file.specs.Files.{at_line, and_then, numbers_at, wrong_at, named_at, sections_checked}
 use Rattle.market_file.specs.FormedLines.{line_formed, FormedLine, BrokenLine, LineByForm}
 use Rattle.market_file.specs.Keeping.{Sections, BrokenSections}

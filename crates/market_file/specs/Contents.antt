@@ -3,7 +3,7 @@ use Rattle.std.specs.Prelude.{◌≡◌, ℕ, ◌≤◌, cond, List, ◌++◌, r
 use Rattle.market_lines.specs.declared.kind.Kind.{Kind}
 use Rattle.market_lines.specs.declared.kind.Kind.TheVariants as kind
 use Rattle.market_file.specs.declared.form.Contents.{Contents}
-use Rattle.market_file.specs.declared.form.Sizes.{Sizes}
+use Rattle.market.specs.declared.sizes.Sizes.{Sizes}
 
 -- The kinds of the lines after the first two, in file order: the sections S, Q, P, H, T and R, each with as many lines as the contents say.
 abbrev pub kinds_of : Contents → List Kind

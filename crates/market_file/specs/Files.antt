@@ -15,7 +15,7 @@ use Rattle.naming.specs.declared.fault.NameFault.TheVariants.{Parent, Twice}
 use Rattle.naming.specs.Faults.{name_fault}
 use Rattle.market_file.specs.declared.form.Contents.{Contents}
 use Rattle.market_file.specs.declared.form.Form.{Form}
-use Rattle.market_file.specs.declared.form.Sizes.{Sizes}
+use Rattle.market.specs.declared.sizes.Sizes.{Sizes}
 use Rattle.market_file.specs.Contents.{kinds_of, sizes_in, contents_in, wrong_count}
 use Rattle.market_file.specs.FormedLines.{line_formed}
 use Rattle.market_file.specs.Ledgers.{Known, blank, noted}

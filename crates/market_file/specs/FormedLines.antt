@@ -4,7 +4,7 @@ use Rattle.market_lines.specs.declared.fault.LineFault.{LineFault}
 use Rattle.market_lines.specs.declared.fault.LineFault.TheVariants.{InWord, Count, Range}
 use Rattle.market_lines.specs.declared.kind.Kind.{Kind}
 use Rattle.market_lines.specs.Records.{Read, whole, line_read, SpelledLine, Misread}
-use Rattle.market_file.specs.declared.form.Sizes.{Sizes}
+use Rattle.market.specs.declared.sizes.Sizes.{Sizes}
 use Rattle.market_file.specs.Bounds.{count_fits, misfit, CountRight, InRange}
 
 -- Nothing where all numbers are in range, else the fault of the leftmost that is not.

@@ -10,7 +10,7 @@ use Rattle.naming.specs.declared.fault.NameFault.{NameFault}
 use Rattle.naming.specs.Laws.{NamesRightly, NamesWrongly}
 use Rattle.market_file.specs.declared.form.Contents.{Contents}
 use Rattle.market_file.specs.declared.form.Form.{Form}
-use Rattle.market_file.specs.declared.form.Sizes.{Sizes}
+use Rattle.market.specs.declared.sizes.Sizes.{Sizes}
 use Rattle.market_file.specs.Contents.{kinds_of, priorities_due, RightContents}
 use Rattle.market_file.specs.Files.{broken, wrong_at, unknown, file_form}
 use Rattle.market_file.specs.FormedLines.{FormedLine, BrokenLine}

@@ -4,7 +4,7 @@ ghost use Rattle.spelling.specs.Views.{numbers_of};
 ghost use Rattle.market_file.specs.Bounds.{least_words, most_words, lowest, highest, misfit};
 ghost use Rattle.market_file.specs.FormedLines.{fitting};
 
-use crate::form::Sizes;
+use market::sizes::Sizes;
 use market_lines::fault::LineFault;
 use market_lines::kind::Kind;
 use spelling::words::Words;

@@ -3,14 +3,8 @@ ghost use Rattle.std.specs.Prelude.{◌≡◌};
 ghost use Rattle.std.specs.List.{slice_get};
 ghost use Rattle.market_file.specs.Contents.{kinds_of};
 
+use market::sizes::Sizes;
 use market_lines::kind::Kind;
-
-/// How many agents and places there are.
-#[derive(Clone, Copy, Debug, PartialEq, Eq)]
-pub struct Sizes {
-    pub agents: u16,
-    pub places: u16,
-}
 
 /// How many lines each section has.
 #[derive(Clone, Copy, Debug, PartialEq, Eq)]

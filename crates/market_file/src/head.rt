@@ -5,8 +5,9 @@ ghost use Rattle.spelling.specs.Views.{numbers_of};
 ghost use Rattle.market_file.specs.Contents.{sizes_in, contents_in, wrong_count};
 ghost use Rattle.market_file.specs.Files.{sizes_read, contents_read};
 
-use crate::form::{Contents, Sizes};
+use crate::form::Contents;
 use crate::line::numbered_line;
+use market::sizes::Sizes;
 use market_lines::fault::{MarketFault, Spot};
 use market_lines::kind::Kind;
 use spelling::words::Words;

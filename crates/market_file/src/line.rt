@@ -6,7 +6,7 @@ ghost use Rattle.market_file.specs.Files.{placed};
 ghost use Rattle.market_file.specs.FormedLines.{line_formed, LineByForm};
 
 use crate::bounds::check_words;
-use crate::form::Sizes;
+use market::sizes::Sizes;
 use market_lines::fault::{At, LineFault};
 use market_lines::kind::Kind;
 use market_lines::line::Line;

@@ -5,9 +5,10 @@ ghost use Rattle.market_file.specs.Contents.{kinds_of};
 ghost use Rattle.market_file.specs.Files.{broken as broken_at, wrong_at, sections_checked};
 ghost use Rattle.market_file.specs.Ledgers.{known, blank};
 
-use crate::form::{Contents, Sizes};
+use crate::form::Contents;
 use crate::ledger::Ledger;
 use crate::line::numbered_line;
+use market::sizes::Sizes;
 use market_lines::fault::{MarketFault, Spot};
 use naming::fault::NameFault;
 use spelling::lines::Lines;

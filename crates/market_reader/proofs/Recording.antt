@@ -8,7 +8,7 @@ use Rattle.market_lines.specs.Kinds.{letter_of}
 use Rattle.market_lines.specs.Records.{whole}
 use Rattle.market_lines.proofs.Lettering.{same_letter}
 use Rattle.market_file.specs.declared.form.Contents.{Contents}
-use Rattle.market_file.specs.declared.form.Sizes.{Sizes}
+use Rattle.market.specs.declared.sizes.Sizes.{Sizes}
 use Rattle.market_file.specs.Bounds.{CountRight, InRange}
 use Rattle.market_file.specs.Contents.{kinds_of}
 use Rattle.market_file.specs.Files.{numbers_at}

@@ -10,7 +10,7 @@ use Rattle.market_lines.specs.declared.kind.Kind.TheVariants as kind
 use Rattle.market_lines.specs.Kinds.{letter_of}
 use Rattle.naming.specs.declared.fault.Name.{Name}
 use Rattle.naming.specs.Laws.{Unnamed, NamesRightly}
-use Rattle.market_file.specs.declared.form.Sizes.{Sizes}
+use Rattle.market.specs.declared.sizes.Sizes.{Sizes}
 use Rattle.market_file.specs.Files.{numbers_at}
 use Rattle.market_file.specs.Keeping.{Sections}
 use Rattle.market_file.specs.Ledgers.{Known, name_in, node_in, noted}

@@ -15,7 +15,7 @@ use Rattle.market.proofs.Pigeonhole.{UpTo}
 use Rattle.market_lines.specs.declared.kind.Kind.{Kind}
 use Rattle.market_lines.specs.declared.kind.Kind.TheVariants as kind
 use Rattle.market_file.specs.declared.form.Form.{Form}
-use Rattle.market_file.specs.declared.form.Sizes.{Sizes}
+use Rattle.market.specs.declared.sizes.Sizes.{Sizes}
 use Rattle.market_file.specs.Bounds.{lowest, highest, InRange}
 use Rattle.market_file.specs.Contents.{kinds_of, priorities_due, RightContents}
 use Rattle.market_file.specs.Ledgers.{node_in, blank}

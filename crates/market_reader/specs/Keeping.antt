@@ -9,7 +9,7 @@ use Rattle.market_lines.specs.declared.fault.MarketFault.TheVariants as fault
 use Rattle.market_lines.specs.declared.kind.Kind.{Kind}
 use Rattle.market_lines.specs.declared.kind.Kind.TheVariants.{Seats, Queue, Priorities, Heir, Tenant, Ranking}
 use Rattle.market_file.specs.declared.form.Form.{Form}
-use Rattle.market_file.specs.declared.form.Sizes.{Sizes}
+use Rattle.market.specs.declared.sizes.Sizes.{Sizes}
 use Rattle.market_file.specs.Contents.{kinds_of}
 use Rattle.market_file.specs.FormedLines.{FormedLine}
 use Rattle.market_file.specs.Keeping.{KeepsForm, BrokenForm, Sized}

@@ -5,8 +5,8 @@ ghost use Rattle.market_reader.specs.Rooms.{room_for};
 use market::agent::Agent;
 use market::node::Node;
 use market::place::Place;
+use market::sizes::Sizes;
 use market::tenant::Tenant;
-use market_file::form::Sizes;
 
 mod access;
 mod filling;
