@@ -1,20 +1,14 @@
 -- Laws of `until`, `since` and `afters`. Assumes nothing.
-use Rattle.std.proofs.Common.{◌≡◌, ℕ, suc, ◌+◌, ◌<◌, ◌≤◌, true, false, cond, eqb, List, [], ◌∷◌, length, get_or, take, drop, sym, refl, ap, ◌∙◌, inl, inr, arith}
-use Rattle.std.proofs.lemmas.List.{at_drop_more}
+use Rattle.std.proofs.Common.{◌≡◌, ℕ, suc, ◌+◌, ◌<◌, ◌≤◌, true, false, cond, eqb, List, [], ◌∷◌, length, get_or, take, drop, sym, refl, ap, ◌∙◌, inl, inr, add-one, arith, ◌≢◌}
 use Rattle.std.proofs.lemmas.Bool.{cases_Bool, eq-eqb, ne_eqb}
 use Rattle.spelling.specs.Cuts.{until, since, afters}
 
--- Nothing stands before a c.
-pub until_here : (c : ℕ) (bs : List ℕ) (i : ℕ) → i < length bs → get_or bs i 0 ≡ c → length (until c (drop i bs)) ≡ 0
-until_here c bs i h e =
-    at_drop_more (λ l. length (until c l)) bs i 0 h
-    ∙ ap (λ t. length (cond t [] (get_or bs i 0 ∷ until c (drop (i + 1) bs)))) (eq-eqb _ _ e)
+-- Nothing stands before a c, and any other byte is one more.
+pub until_here : (c b : ℕ) (bs : List ℕ) → b ≡ c → length (until c (b ∷ bs)) ≡ 0
+until_here c b bs e = ap (λ t. length (cond t [] (b ∷ until c bs))) (eq-eqb b c e)
 
--- Any other byte is one more before the first c.
-pub until_more : (c : ℕ) (bs : List ℕ) (i : ℕ) → i < length bs → (get_or bs i 0 ≡ c → ⊥) → length (until c (drop i bs)) ≡ suc (length (until c (drop (i + 1) bs)))
-until_more c bs i h e =
-    at_drop_more (λ l. length (until c l)) bs i 0 h
-    ∙ ap (λ t. length (cond t [] (get_or bs i 0 ∷ until c (drop (i + 1) bs)))) (ne_eqb _ _ e)
+pub until_more : (c b : ℕ) (bs : List ℕ) → b ≢ c → length (until c (b ∷ bs)) ≡ length (until c bs) + 1
+until_more c b bs e = ap (λ t. length (cond t [] (b ∷ until c bs))) (ne_eqb b c e) ∙ sym (add-one _)
 
 -- A cut at the length of `until` gives `until`, and then `since`.
 pub take_until : (c : ℕ) (bs : List ℕ) → take (length (until c bs)) bs ≡ until c bs

@@ -4,6 +4,10 @@ use Rattle.std.proofs.ByRecursion.{All-weaker}
 use Rattle.std.proofs.lemmas.List.{length-map}
 use Rattle.std.proofs.lemmas.Bool.{cases_Bool, eqb-true, eqb-false, eq-eqb, ne_eqb}
 use Rattle.std.specs.List.{AllByRecursion}
+use Rattle.std.proofs.lemmas.Iterator.{YieldsList}
+use Rattle.std.proofs.lemmas.Iterator.Consumers.{YieldsList-from_shown}
+use Rattle.spelling.specs.declared.words.Words.{Words}
+use Rattle.spelling.specs.Views.{numbers_of, Yields}
 use Rattle.spelling.specs.Cuts.{until, since, afters, none}
 use Rattle.spelling.specs.Grammar.{Digit, Word, Spelled, Ends, Small, spell}
 use Rattle.spelling.specs.Reading.{unless, words_read}
@@ -64,6 +68,13 @@ few_afters (b ∷ bs) =
 pub few_numbers : (bs : List ℕ) → length (numbers_in bs) ≤ length bs
 few_numbers bs =
     elim (none (until 32 bs)) as (λ t. length (leading (cond t (map spelled (afters 32 bs)) (None ∷ []))) ≤ length bs) [ true ↦ omega (arith, few_leading (map spelled (afters 32 bs)), few_afters bs, length-map (afters 32 bs) spelled) | false ↦ omega arith ]
+
+-- The numbers that a view has still to give.
+abbrev pub word_steps : Words → Option ℕ → Words → Type 0
+word_steps s r t = Yields (numbers_of s) r (numbers_of t)
+
+pub numbers_road : (s : Words) → YieldsList word_steps (λ n. n) s (numbers_of s)
+numbers_road s = YieldsList-from_shown word_steps (λ n. n) numbers_of (λ s t h. ap length h.0) (λ s x t h. h) s
 
 -- ---- texts as words after spaces
 

@@ -6,12 +6,7 @@ ghost use Rattle.spelling.specs.Cuts.{until, since};
 fn length_before(bytes: &[u8], at: u8) -> usize
     ensures { result ≡ length (until at bytes.now) }
 {
-    for (i, b) in bytes.iter().enumerate() {
-        if *b == at {
-            return i;
-        }
-    }
-    bytes.len()
+    bytes.iter().position(|b| *b == at).unwrap_or(bytes.len())
 }
 
 /// What stands before the first `at`, and the rest from there on.

@@ -62,11 +62,7 @@ impl<'a> Words<'a> {
     pub fn len(&self) -> usize
         ensures { result ≡ length (numbers_of self.now) }
     {
-        let mut count = 0;
-        for _ in *self {
-            count += 1;
-        }
-        count
+        self.count()
     }
 
     /// The next number, or 0 where there is none.
@@ -74,10 +70,7 @@ impl<'a> Words<'a> {
         ensures value { result ≡ slice_index (numbers_of self.old) 0 }
         ensures rest { numbers_of self.new ≡ drop 1 (numbers_of self.old) }
     {
-        match self.next() {
-            Some(number) => number,
-            None => 0,
-        }
+        self.next().unwrap_or(0)
     }
 }
 

@@ -1,6 +1,10 @@
-use Rattle.std.proofs.Common.{length, ap, arith}
-use Rattle.spelling.proofs.Readings.{few_numbers}
+use Rattle.std.proofs.Common.{arith, inl}
+use Rattle.std.proofs.lemmas.Iterator.Consumers.{count_from_yields_List}
+use Rattle.spelling.proofs.Readings.{few_numbers, numbers_road}
 use Rattle.spelling.proofs.words.Words.len.Goals as goal
 
-pub overflow_add-count : goal.overflow_add-count
-overflow_add-count c = omega (arith, few_numbers c.args.self.now.rest.now, ap length c.in-Some.ensures.steps)
+pub count-requires-clause-fits : goal.count-requires-clause-fits
+count-requires-clause-fits c = inl (omega (arith, few_numbers c.args.self.now.rest.now))
+
+pub returns : goal.returns
+returns c = count_from_yields_List c.args.self.now _ c.count.ensures.ran (numbers_road c.args.self.now)
