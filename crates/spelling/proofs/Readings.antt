@@ -1,13 +1,16 @@
 -- The words of a text: reading them from the left, and the numbers that they spell. Assumes nothing.
-use Rattle.std.proofs.Common.{◌≡◌, ℕ, suc, ◌+◌, ◌≤◌, true, false, cond, eqb, List, [], ◌∷◌, ◌++◌, map, length, is_some, Some, None, Ok, decimal, Option, sym, refl, ap, ◌∙◌, subst, inl, inr, add-one, arith}
+use Rattle.std.proofs.Common.{◌≡◌, ℕ, suc, ◌+◌, ◌≤◌, true, false, cond, eqb, List, [], ◌∷◌, ◌++◌, map, length, Some, None, Ok, decimal, Option, sym, refl, ap, ◌∙◌, subst, inl, inr, add-one, arith}
 use Rattle.std.proofs.ByRecursion.{All-weaker}
 use Rattle.std.proofs.lemmas.List.{length-map}
 use Rattle.std.proofs.lemmas.Bool.{cases_Bool, eqb-true, eqb-false, eq-eqb, ne_eqb}
-use Rattle.std.specs.List.{AllByRecursion}
+use Rattle.std.specs.Iterator.{YieldsFirst}
+use Rattle.std.specs.List.{AllByRecursion, position_from}
+use Rattle.std.specs.Option.{is_none, option_map}
 use Rattle.std.proofs.lemmas.Iterator.{YieldsList}
-use Rattle.std.proofs.lemmas.Iterator.Consumers.{YieldsList-from_shown}
+use Rattle.std.proofs.lemmas.Iterator.Consumers.{YieldsList-from_first, YieldsList-from_shown}
+use Rattle.spelling.specs.declared.words.Readings.{Readings}
 use Rattle.spelling.specs.declared.words.Words.{Words}
-use Rattle.spelling.specs.Views.{numbers_of, Yields}
+use Rattle.spelling.specs.Views.{numbers_of, readings_left, Yields}
 use Rattle.spelling.specs.Cuts.{until, since, afters, none}
 use Rattle.spelling.specs.Grammar.{Digit, Word, Spelled, Ends, Small, spell}
 use Rattle.spelling.specs.Reading.{unless, words_read}
@@ -34,16 +37,18 @@ readings_space bs =
 pub turn_stray : (rest : List ℕ) (b : ℕ) (after : List ℕ) → rest ≡ b ∷ after → (b ≡ 32 → ⊥) → readings rest ≡ None ∷ []
 turn_stray rest b after is h = ap readings is ∙ readings_stray b after h
 
-pub turn_word : (rest after : List ℕ) → rest ≡ 32 ∷ after → readings rest ≡ spelled (until 32 after) ∷ readings (since 32 after)
-turn_word rest after is = ap readings is ∙ readings_space after
+pub turn_word : (rest after w next : List ℕ) (o : Option ℕ) → rest ≡ 32 ∷ after → w ≡ until 32 after → next ≡ since 32 after → o ≡ spelled w → readings rest ≡ o ∷ readings next
+turn_word rest after w next o is front back value =
+    ap readings is
+    ∙ readings_space after
+    ∙ ap (λ x. x ∷ readings (since 32 after)) (ap spelled (sym front) ∙ sym value)
+    ∙ ap (λ l. o ∷ readings l) (sym back)
 
-pub gap_here : (k : ℕ) (o : Option ℕ) (os : List (Option ℕ)) → is_some o ≡ false → gap k (o ∷ os) ≡ Some k
-gap_here k None os e = refl
-gap_here k (Some n) os e = let z : ◌≡◌ {A = ℕ} 0 1 = cc in absurd (omega arith)
-
-pub gap_more : (k : ℕ) (o : Option ℕ) (os : List (Option ℕ)) → is_some o ≡ true → gap k (o ∷ os) ≡ gap (k + 1) os
-gap_more k None os e = let z : ◌≡◌ {A = ℕ} 0 1 = cc in absurd (omega arith)
-gap_more k (Some n) os e = ap (λ j. gap j os) (sym (add-one k))
+-- The first reading that is none, counted from 1.
+pub gap_is : (k : ℕ) (os : List (Option ℕ)) → option_map (λ i. i + 1) (position_from is_none k os) ≡ gap (suc k) os
+gap_is k [] = refl
+gap_is k (None ∷ os) = ap Some (add-one k)
+gap_is k (Some n ∷ os) = ap (λ j. option_map (λ i. i + 1) (position_from is_none j os)) (add-one k) ∙ gap_is (suc k) os
 
 -- The first of the numbers and the others, or none.
 pub leading_none : (o : Option ℕ) (os : List (Option ℕ)) → o ≡ None → leading (o ∷ os) ≡ []
@@ -65,9 +70,18 @@ few_afters [] = omega arith
 few_afters (b ∷ bs) =
     elim (eqb b 32) as (λ t. length (cond t (until 32 bs ∷ afters 32 bs) (afters 32 bs)) ≤ suc (length bs)) [ true ↦ omega (arith, few_afters bs) | false ↦ omega (arith, few_afters bs) ]
 
+pub few_readings : (bs : List ℕ) → length (readings bs) ≤ length bs
+few_readings [] = omega arith
+few_readings (b ∷ bs) =
+    let text : List ℕ = b ∷ bs in
+    elim (none (until 32 text)) as (λ t. length (cond t (map spelled (afters 32 text)) (None ∷ [])) ≤ length text) [ true ↦ omega (arith, few_afters text, length-map (afters 32 text) spelled) | false ↦ omega arith ]
+
 pub few_numbers : (bs : List ℕ) → length (numbers_in bs) ≤ length bs
-few_numbers bs =
-    elim (none (until 32 bs)) as (λ t. length (leading (cond t (map spelled (afters 32 bs)) (None ∷ []))) ≤ length bs) [ true ↦ omega (arith, few_leading (map spelled (afters 32 bs)), few_afters bs, length-map (afters 32 bs) spelled) | false ↦ omega arith ]
+few_numbers bs = omega (arith, few_leading (readings bs), few_readings bs)
+
+-- The readings that an iterator has still to give.
+pub readings_road : (s : Readings) → YieldsList (YieldsFirst readings_left) (λ o. o) s (readings_left s)
+readings_road s = YieldsList-from_first (λ o. o) readings_left (readings_left s) refl
 
 -- The numbers that a view has still to give.
 abbrev pub word_steps : Words → Option ℕ → Words → Type 0

@@ -2,9 +2,9 @@
 ghost use Rattle.std.specs.Prelude.{◌≡◌, length, drop, slice_index};
 ghost use Rattle.std.specs.Result.{result_map_both};
 ghost use Rattle.spelling.specs.Reading.{words_read, ReadsByGrammar};
-ghost use Rattle.spelling.specs.Views.{numbers_of, Yields};
+ghost use Rattle.spelling.specs.Views.{numbers_of, readings_left, Yields};
 ghost use Rattle.spelling.specs.Words.{malformed, numbers_in};
-ghost use Rattle.std.specs.Iterator.{at_most};
+ghost use Rattle.std.specs.Iterator.{at_most, item_count, YieldsFirst};
 
 use crate::cut::cut;
 use crate::fault::WordFault;
@@ -16,24 +16,37 @@ pub struct Words<'a> {
     rest: &'a [u8],
 }
 
+/// What the words of a text are read as, from the left: a number, or none at a malformed word.
+#[derive(Clone, Copy)]
+struct Readings<'a> {
+    rest: &'a [u8],
+}
+
+impl<'a> Iterator for Readings<'a> {
+    type Item = Option<u16>;
+
+    ghost next_gives = { YieldsFirst readings_left };
+
+    ghost remaining = { item_count readings_left };
+
+    fn next(&mut self) -> Option<Option<u16>> {
+        let (space, after) = self.rest.split_first()?;
+        if *space != b' ' {
+            self.rest = &[];
+            return Some(None);
+        }
+        let (word, rest) = cut(after, b' ');
+        self.rest = rest;
+        Some(number(word))
+    }
+}
+
 /// The place, from 1, of the leftmost malformed word of a text.
 fn malformed_word(text: &[u8]) -> Option<usize>
     ensures { result ≡ malformed text.now }
 {
-    let mut place = 1;
-    let mut rest = text;
-    while let [space, after @ ..] = rest {
-        if *space != b' ' {
-            return Some(place);
-        }
-        let (word, next) = cut(after, b' ');
-        if number(word).is_none() {
-            return Some(place);
-        }
-        place += 1;
-        rest = next;
-    }
-    None
+    let mut readings = Readings { rest: text };
+    readings.position(|reading| reading.is_none()).map(|i| i + 1)
 }
 
 impl<'a> Words<'a> {
@@ -82,12 +95,9 @@ impl<'a> Iterator for Words<'a> {
     ghost remaining = { λ s. at_most (length (numbers_of s)) };
 
     fn next(&mut self) -> Option<u16> {
-        let [b' ', after @ ..] = self.rest else {
-            return None;
-        };
-        let (word, rest) = cut(after, b' ');
-        let value = number(word)?;
-        self.rest = rest;
+        let mut readings = Readings { rest: self.rest };
+        let value = readings.next()??;
+        self.rest = readings.rest;
         Some(value)
     }
 }
