@@ -1,11 +1,14 @@
 -- One word: what `spelled` reads is what the grammar calls a word, and what `decimal` writes is one. Assumes nothing.
-use Rattle.std.proofs.Common.{◌≡◌, ℕ, ◌^◌, ◌<◌, ◌≤◌, Bool, true, false, cond, not, ◌&&◌, eqb, ltb, leb, List, [], ◌∷◌, length, get_or, Some, None, decimal, Option, sym, refl, ap, ◌∙◌, subst, inl, inr, arith, rules}
+use Rattle.std.proofs.Common.{◌≡◌, ◌≢◌, ℕ, zero, suc, Ok, Err, Result, slice_index, ◌^◌, ◌<◌, ◌≤◌, Bool, true, false, cond, not, ◌&&◌, eqb, ltb, leb, List, [], ◌∷◌, length, get_or, Some, None, decimal, Option, sym, refl, ap, ◌∙◌, subst, inl, inr, arith, rules}
 use Rattle.std.proofs.lemmas.Fmt.{digits_decimal, digits_value-decimal, length-decimal-le, decimal_nonempty, first_decimal}
-use Rattle.std.proofs.lemmas.Str.Parse.{IsNumeralModel, numerals_by_fold}
+use Rattle.std.proofs.lemmas.Str.Parse.{IsNumeralModel, numerals_by_fold, parse_plain}
+use Rattle.std.proofs.lemmas.Str.{IsUtf8-from_ascii}
 use Rattle.std.proofs.lemmas.Bool.{and_parts, and_from, eq-eqb, ne_eqb, le-leb, leb-true, ltb-true, ltb-false, lt-ltb, le-ltb, cases_lt, not-true, not_from_false, and_left, and_right}
 use Rattle.std.specs.Char.{is_ascii_digit}
 use Rattle.std.specs.List.{AllByRecursion}
-use Rattle.std.specs.Str.{all_ascii_digits}
+use Rattle.std.specs.Result.{result_ok}
+use Rattle.std.specs.Str.{all_ascii_digits, IsUtf8}
+use Rattle.std.specs.Str.Parse.{ParsesUnsigned}
 use Rattle.spelling.specs.Grammar.{Digit, Word, WordExactly}
 use Rattle.spelling.specs.Words.{read_on, shaped, spells, spelled}
 
@@ -74,6 +77,38 @@ spelled_from_word w n h =
 pub word_exactly : (w : List ℕ) (r : Option ℕ) → r ≡ spelled w → WordExactly w r
 word_exactly w r e = record { sound = λ n h. word_from_spelled w n (sym e ∙ h); complete = λ n h. e ∙ spelled_from_word w n h }
 
+-- Bytes that are no word spell no number.
+pub spells_none : (w : List ℕ) → ((n : ℕ) → Word w n → ⊥) → None ≡ spelled w
+spells_none w h = at (spelled w) refl
+  where
+    at : (o : Option ℕ) → spelled w ≡ o → None ≡ o
+    at None e = refl
+    at (Some n) e = absurd (h n (word_from_spelled w n e))
+
+-- Digits are text.
+ascii_digits : (w : List ℕ) → AllByRecursion Digit w → (i : ℕ) → slice_index w i < 128
+ascii_digits [] d i = omega arith
+ascii_digits (b ∷ w) d zero = omega (arith, d.0)
+ascii_digits (b ∷ w) d (suc i) = ascii_digits w d.1 i
+
+pub text_from_word : (w : List ℕ) (n : ℕ) → Word w n → IsUtf8 w
+text_from_word w n h = IsUtf8-from_ascii w (ascii_digits w h.digits)
+
+-- What `parse` makes of a text of up to five bytes, without a sign and without a leading zero.
+pub spelled_by_parse : {E : Type 0} (w : List ℕ) (r : Result ℕ E) → ParsesUnsigned 16 10 w r → length w ≤ 5 → (slice_index w 0 ≡ 48 → length w < 2) → slice_index w 0 ≢ 43 → result_ok r ≡ spelled w
+spelled_by_parse {E = E} w (Ok x) h few lead plain =
+    let p = parse_plain own {E = E} 16 w (Ok x) h plain in
+    sym (spelled_from_word w x (record {
+      digits = digits_from_test w p.0.0;
+      some = omega (arith, p.0.1);
+      few = few;
+      lead = λ e. omega (arith, lead e, p.0.1);
+      value = sym p.1;
+      small = omega (arith, p.0.2, p.1);
+    }))
+spelled_by_parse {E = E} w (Err e) h few lead plain =
+    spells_none w (λ n k. parse_plain own {E = E} 16 w (Err e) h plain (test_from_digits w k.digits, omega (arith, k.some), omega (arith, k.value, k.small)))
+
 -- What `decimal` writes is a word.
 pub word_decimal : (n : ℕ) → n ≤ 65535 → Word (decimal n) n
 word_decimal n h = record {
@@ -82,7 +117,7 @@ word_decimal n h = record {
   few = length-decimal-le 5 n (omega arith) (omega arith) (low n h);
   lead = λ e. elim (cases_lt 0 n) [
     | inl more ↦ absurd (omega (arith, first_decimal n more (low n h)))
-    | inr zero ↦ omega (arith, length-decimal-le 1 n (omega arith) (omega arith) (low n h), decimal_nonempty n (low n h))
+    | inr least ↦ omega (arith, length-decimal-le 1 n (omega arith) (omega arith) (low n h), decimal_nonempty n (low n h))
   ];
   value = digits_value-decimal own n (low n h);
   small = h;

@@ -8,10 +8,6 @@ abbrev pub read_on : ℕ → List ℕ → ℕ
 read_on n [] = n
 read_on n (c ∷ cs) = read_on (10 * n + (c - 48)) cs
 
--- The number that decimal digits write after the number n; none where a byte is no digit.
-abbrev pub digits_after : ℕ → List ℕ → Option ℕ
-digits_after n bs = cond (all_ascii_digits bs) (Some (read_on n bs)) None
-
 -- The text has 1 to 5 bytes, and begins with the digit 0 only if that is all of it.
 abbrev pub shaped : List ℕ → Bool
 shaped bs = nat_lt 0 (length bs) && nat_le (length bs) 5 && not (slice_index bs 0 == 48 && nat_lt 1 (length bs))

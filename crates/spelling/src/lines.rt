@@ -13,10 +13,7 @@ fn split_line(bytes: &[u8]) -> (&[u8], &[u8])
     ensures rest { result.1.now ≡ past bytes.now }
 {
     let (line, rest) = cut(bytes, b'\n');
-    match rest {
-        [_, after @ ..] => (line, after),
-        [] => (line, rest),
-    }
+    (line, rest.get(1..).unwrap_or_default())
 }
 
 /// The lines of a file that are still to come.

@@ -1,22 +1,7 @@
 // Words: a word is 1 to 5 decimal digits, with no leading zero unless it is 0 itself, and at most 65,535.
-ghost use Rattle.std.specs.Prelude.{◌≡◌, ◌≤◌, length};
+ghost use Rattle.std.specs.Prelude.{◌≡◌};
 ghost use Rattle.spelling.specs.Grammar.{WordExactly};
-ghost use Rattle.spelling.specs.Words.{digits_after, spelled};
-
-/// The number that digits write, or `None` where a byte is no digit.
-fn digits(text: &[u8]) -> Option<u32>
-    requires { length text.now ≤ 5 }
-    ensures { result ≡ digits_after 0 text.now }
-{
-    let mut n: u32 = 0;
-    for b in text {
-        if !b.is_ascii_digit() {
-            return None;
-        }
-        n = 10 * n + u32::from(*b - b'0');
-    }
-    Some(n)
-}
+ghost use Rattle.spelling.specs.Words.{spelled};
 
 /// The number that a word's bytes spell, if they spell one.
 pub fn number(text: &[u8]) -> Option<u16>
@@ -24,9 +9,9 @@ pub fn number(text: &[u8]) -> Option<u16>
     ensures grammar { WordExactly text.now result }
 {
     match text {
-        [] => None,
         [b'0', _, ..] => None,
+        [b'+', ..] => None,
         [_, _, _, _, _, _, ..] => None,
-        _ => u16::try_from(digits(text)?).ok(),
+        _ => str::from_utf8(text).ok()?.parse().ok(),
     }
 }

@@ -65,10 +65,7 @@ impl<'a> Words<'a> {
     pub fn after_letter(line: &'a [u8]) -> Words<'a>
         ensures { numbers_of result ≡ numbers_in (drop 1 line.now) }
     {
-        match line {
-            [_, rest @ ..] => Words { rest },
-            [] => Words { rest: line },
-        }
+        Words { rest: line.get(1..).unwrap_or_default() }
     }
 
     /// How many words are still to come.
