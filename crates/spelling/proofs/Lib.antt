@@ -4,3 +4,4 @@ pub mod Readings
 pub mod Rejoining
 pub mod Sentences
 pub mod Spelling
+pub mod Trying

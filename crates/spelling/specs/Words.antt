@@ -1,5 +1,6 @@
 -- What a word's bytes spell, and the words of a text.
 use Rattle.std.specs.Prelude.{ℕ, suc, ◌+◌, ◌-◌, ◌*◌, Bool, cond, not, ◌&&◌, List, [], ◌∷◌, map, length, Some, None, Option, ◌==◌, nat_le, nat_lt, slice_index}
+use Rattle.std.specs.Char.{is_ascii_digit}
 use Rattle.std.specs.Str.{all_ascii_digits}
 use Rattle.spelling.specs.Cuts.{until, afters, none}
 
@@ -7,6 +8,10 @@ use Rattle.spelling.specs.Cuts.{until, afters, none}
 abbrev pub read_on : ℕ → List ℕ → ℕ
 read_on n [] = n
 read_on n (c ∷ cs) = read_on (10 * n + (c - 48)) cs
+
+-- The number with one more decimal digit, where the byte is one and the number is still at most 65,535.
+abbrev pub with_digit : ℕ → ℕ → Option ℕ
+with_digit n c = cond (is_ascii_digit c && nat_le (10 * n + (c - 48)) 65535) (Some (10 * n + (c - 48))) None
 
 -- The text has 1 to 5 bytes, and begins with the digit 0 only if that is all of it.
 abbrev pub shaped : List ℕ → Bool

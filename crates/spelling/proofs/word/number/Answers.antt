@@ -1,17 +1,15 @@
-use Rattle.std.proofs.Common.{◌≡◌, ◌∙◌, rules}
-use Rattle.std.specs.Str.{IsUtf8}
-use Rattle.spelling.specs.Words.{spelled}
-use Rattle.spelling.proofs.Spelling.{word_exactly, spells_none, text_from_word, spelled_by_parse}
+use Rattle.std.proofs.Common.{◌≡◌, ◌<◌, ◌≤◌, ◌∙◌, length, get_or, ap, rules, tests}
+use Rattle.spelling.specs.Words.{spelled, with_digit}
+use Rattle.spelling.proofs.Spelling.{word_exactly, spelled_by_digits}
+use Rattle.spelling.proofs.Trying.{carried, carried_by_try_fold}
 use Rattle.spelling.proofs.word.number.Goals as goal
 
-pub returns-in_err-ok-in_default : goal.returns-in_err-ok-in_default
-returns-in_err-ok-in_default c =
+pub returns-in_default : goal.returns-in_default
+returns-in_default c =
     let w = c.args.text.now in
-    let no_text : IsUtf8 w → ⊥ = search rules in
-    let e : c.from_residual.result ≡ spelled w = c.from_residual.ensures ∙ spells_none w (λ n k. no_text (text_from_word w n k)) in
-    record { value = e; grammar = word_exactly _ _ e }
-
-pub returns-in_ok-ok-in_default : goal.returns-in_ok-ok-in_default
-returns-in_ok-ok-in_default c =
-    let e : c.ok-in_default.result ≡ spelled c.args.text.now = search (rules, spelled_by_parse) in
+    let some : 0 < length w = search rules in
+    let few : length w ≤ 5 = search rules in
+    let lead : get_or w 0 0 ≡ 48 → length w < 2 = search rules in
+    let run = carried_by_try_fold _ _ with_digit c.iter.result _ _ 0 c.try_fold.result c.try_fold.ensures.ran (λ n x v q h. search (rules, tests)) in
+    let e : c.try_fold.result ≡ spelled w = run ∙ ap (carried with_digit 0) c.iter.ensures.rest ∙ spelled_by_digits w some few lead in
     record { value = e; grammar = word_exactly _ _ e }
