@@ -1,8 +1,6 @@
 -- The letters of the kinds, and reading a line by them. Assumes nothing.
-use Rattle.std.proofs.Common.{◌≡◌, ℕ, ◌<◌, Bool, true, false, cond, eqb, ◌⊎◌, List, [], ◌∷◌, length, get_or, Some, None, Ok, Err, Option, Result, sym, refl, ap, ◌∙◌, subst, inl, inr, arith}
-use Rattle.std.proofs.lemmas.Slice.{first_rest}
-use Rattle.std.proofs.lemmas.Bool.{cases_Bool, eqb-true, eqb-false, eq-eqb, ne_eqb}
-use Rattle.std.specs.List.{between}
+use Rattle.std.proofs.Common.{◌≡◌, ℕ, cond, eqb, ◌⊎◌, List, [], ◌∷◌, Some, Ok, Err, Option, Result, sym, refl, ap, ◌∙◌, subst, inl, inr, arith}
+use Rattle.std.proofs.lemmas.Bool.{cases_Bool, eqb-true, eqb-false, eq-eqb}
 use Rattle.spelling.specs.declared.fault.WordFault.{WordFault}
 use Rattle.spelling.specs.declared.fault.WordFault.TheVariants.{Letter, Malformed}
 use Rattle.spelling.specs.Reading.{words_read}
@@ -26,28 +24,9 @@ kind_of_letter Heir = refl
 kind_of_letter Tenant = refl
 kind_of_letter Ranking = refl
 
--- One test of a letter: it is the letter of the kind, or the tests after it decide.
-tested : (b : ℕ) (here k : Kind) (rest : Option Kind) → (rest ≡ Some k → b ≡ letter_of k) → cond (eqb b (letter_of here)) (Some here) rest ≡ Some k → b ≡ letter_of k
-tested b here k rest on e = at (eqb b (letter_of here)) refl e
-  where
-    at : (t : Bool) → eqb b (letter_of here) ≡ t → cond t (Some here) rest ≡ Some k → b ≡ letter_of k
-    at true is f = let same : here ≡ k = cc in eqb-true b (letter_of here) is ∙ ap letter_of same
-    at false is f = on f
-
-pub letter_of_kind : (b : ℕ) (k : Kind) → kind_of b ≡ Some k → b ≡ letter_of k
-letter_of_kind b k e =
-    tested b Market k _ (tested b Contents k _ (tested b Seats k _ (tested b Queue k _ (tested b Priorities k _ (tested b Heir k _ (tested b Tenant k _ (tested b Ranking k None (λ f. let z : ◌≡◌ {A = ℕ} 0 1 = cc in absurd (omega arith))))))))) e
-
 -- Two kinds with one letter are one.
 pub same_letter : (j k : Kind) → letter_of j ≡ letter_of k → j ≡ k
 same_letter j k e = let both : ◌≡◌ {A = Option Kind} (Some j) (Some k) = sym (kind_of_letter j) ∙ ap kind_of e ∙ kind_of_letter k in cc
-
--- A letter that stands for no kind is no kind's.
-pub no_letter : (b : ℕ) (k : Kind) → kind_of b ≡ None → eqb b (letter_of k) ≡ false
-no_letter b k e = ne_eqb b (letter_of k) (λ h.
-    let both : ◌≡◌ {A = Option Kind} None (Some k) = sym e ∙ ap kind_of h ∙ kind_of_letter k in
-    let z : ◌≡◌ {A = ℕ} 0 1 = cc in
-    omega arith)
 
 -- ---- reading a line
 
@@ -57,18 +36,6 @@ line_from k text rest is =
     ap (line_read k) is
     ∙ ap (λ t. cond t (worded k (letter_of k ∷ rest) (words_read rest)) (Err (InWord Letter))) (eq-eqb (letter_of k) (letter_of k) refl)
     ∙ ap (λ t. worded k t (words_read rest)) (sym is)
-
--- The same, as the code has the text.
-pub line_is : (k : Kind) (text : List ℕ) (ws : Result (List ℕ) WordFault) → 0 < length text → eqb (get_or text 0 0) (letter_of k) ≡ true → words_read (between 1 (length text) text) ≡ ws → line_read k text ≡ worded k text ws
-line_is k text ws some letter words =
-    let rest : List ℕ = between 1 (length text) text in
-    line_from k text rest (first_rest text 0 some ∙ ap (λ b. b ∷ rest) (eqb-true _ _ letter)) ∙ ap (worded k text) words
-
--- A line that begins with another byte has the fault of its letter.
-pub line_other : (k : Kind) (text : List ℕ) → 0 < length text → eqb (get_or text 0 0) (letter_of k) ≡ false → line_read k text ≡ Err (InWord Letter)
-line_other k text some letter =
-    let rest : List ℕ = between 1 (length text) text in
-    ap (line_read k) (first_rest text 0 some) ∙ ap (λ t. cond t (worded k (get_or text 0 0 ∷ rest) (words_read rest)) (Err (InWord Letter))) letter
 
 worded_ok : (k : Kind) (text : List ℕ) (ws : Result (List ℕ) WordFault) (l : Read) → worded k text ws ≡ Ok l → (ws ≡ Ok l.numbers) × (l ≡ whole k text l.numbers)
 worded_ok k text (Ok ns) l e =

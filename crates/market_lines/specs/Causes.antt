@@ -1,11 +1,12 @@
 -- The faults of lines and files: the number of each, the layer that it belongs to, and where it stands.
-use Rattle.std.specs.Prelude.{ℕ}
+use Rattle.std.specs.Prelude.{ℕ, Some, None, Option}
 use Rattle.spelling.specs.Faults.{word_cause, word_at}
 use Rattle.market_lines.specs.declared.fault.Layer.{Layer}
 use Rattle.market_lines.specs.declared.fault.Layer.TheVariants as layer
 use Rattle.market_lines.specs.declared.fault.LineFault.{LineFault}
 use Rattle.market_lines.specs.declared.fault.LineFault.TheVariants.{InWord, Count, Range}
 use Rattle.market_lines.specs.declared.fault.MarketFault.{MarketFault}
+use Rattle.market_lines.specs.declared.fault.Spot.{Spot}
 use Rattle.market_lines.specs.declared.fault.MarketFault.TheVariants.{InLine, Size, Contents, Parent, Twice}
 
 -- The number of a line's fault: a word's fault keeps its own.
@@ -41,6 +42,14 @@ layer_of Size = layer.Market
 layer_of (Contents spot) = layer.Market
 layer_of (Parent spot) = layer.Market
 layer_of (Twice spot) = layer.Market
+
+-- The line and the word that a file's fault names, if it names a line.
+abbrev pub spot_of : MarketFault → Option Spot
+spot_of (InLine at) = Some (record { line = at.line; word = line_word at.fault })
+spot_of Size = None
+spot_of (Contents spot) = Some spot
+spot_of (Parent spot) = Some spot
+spot_of (Twice spot) = Some spot
 
 -- The line that a file's fault names, from 1; 0 where it names none.
 abbrev pub fault_line : MarketFault → ℕ

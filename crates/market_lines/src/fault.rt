@@ -1,6 +1,6 @@
 // What can be wrong with a line or with a file. Each layer carries the fault of the layer below it whole.
 ghost use Rattle.std.specs.Prelude.{◌≡◌};
-ghost use Rattle.market_lines.specs.Causes.{line_cause, line_word, line_layer, market_cause, layer_of, fault_line, fault_word};
+ghost use Rattle.market_lines.specs.Causes.{line_cause, line_word, line_layer, market_cause, layer_of, spot_of, fault_line, fault_word};
 ghost use Rattle.market_lines.specs.declared.fault.LineFault.TheVariants.{InWord};
 ghost use Rattle.market_lines.specs.declared.fault.MarketFault.TheVariants.{InLine};
 
@@ -131,27 +131,32 @@ impl MarketFault {
         }
     }
 
+    /// The line and the word that the fault names, if it names a line.
+    fn spot(self) -> Option<Spot>
+        ensures { result ≡ spot_of self }
+    {
+        match self {
+            MarketFault::InLine(at) => Some(Spot {
+                line: at.line,
+                word: at.fault.word(),
+            }),
+            MarketFault::Size => None,
+            MarketFault::Contents(spot) | MarketFault::Parent(spot) | MarketFault::Twice(spot) =>
+                Some(spot),
+        }
+    }
+
     /// The line that the fault names, from 1; 0 where it names none.
     pub fn line(self) -> usize
         ensures { result ≡ fault_line self }
     {
-        match self {
-            MarketFault::InLine(at) => at.line,
-            MarketFault::Size => 0,
-            MarketFault::Contents(spot) | MarketFault::Parent(spot) | MarketFault::Twice(spot) =>
-                spot.line,
-        }
+        self.spot().map_or(0, |spot| spot.line)
     }
 
     /// The word that the fault names, from 1; 0 where it names none.
     pub fn word(self) -> usize
         ensures { result ≡ fault_word self }
     {
-        match self {
-            MarketFault::InLine(at) => at.fault.word(),
-            MarketFault::Size => 0,
-            MarketFault::Contents(spot) | MarketFault::Parent(spot) | MarketFault::Twice(spot) =>
-                spot.word,
-        }
+        self.spot().map_or(0, |spot| spot.word)
     }
 }

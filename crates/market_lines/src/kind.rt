@@ -1,5 +1,6 @@
 // The kinds of lines: the first letter of a line decides its kind.
 ghost use Rattle.std.specs.Prelude.{◌≡◌, ◌==◌};
+ghost use Rattle.std.specs.Result.{result_ok};
 ghost use Rattle.market_lines.specs.Kinds.{kind_of, letter_of};
 
 /// The kinds of lines, in the order in which a file has them.
@@ -23,31 +24,35 @@ pub enum Kind {
     Ranking,
 }
 
-impl Kind {
-    /// The kind that a letter stands for, if it stands for one.
-    pub fn of(letter: char) -> Option<Kind>
-        ensures { result ≡ kind_of letter }
-    {
+/// A letter that stands for no kind.
+#[derive(Clone, Copy, Debug, PartialEq, Eq)]
+pub struct UnknownLetter;
+
+impl TryFrom<char> for Kind {
+    type Error = UnknownLetter;
+
+    ghost try_from_gives = { λ letter r. result_ok r ≡ kind_of letter };
+
+    fn try_from(letter: char) -> Result<Kind, UnknownLetter> {
         match letter {
-            'M' => Some(Kind::Market),
-            'C' => Some(Kind::Contents),
-            'S' => Some(Kind::Seats),
-            'Q' => Some(Kind::Queue),
-            'P' => Some(Kind::Priorities),
-            'H' => Some(Kind::Heir),
-            'T' => Some(Kind::Tenant),
-            'R' => Some(Kind::Ranking),
-            _ => None,
+            'M' => Ok(Kind::Market),
+            'C' => Ok(Kind::Contents),
+            'S' => Ok(Kind::Seats),
+            'Q' => Ok(Kind::Queue),
+            'P' => Ok(Kind::Priorities),
+            'H' => Ok(Kind::Heir),
+            'T' => Ok(Kind::Tenant),
+            'R' => Ok(Kind::Ranking),
+            _ => Err(UnknownLetter),
         }
     }
+}
 
+impl Kind {
     /// Whether a letter stands for the kind.
     pub(crate) fn is(self, letter: char) -> bool
         ensures { result ≡ (letter == letter_of self) }
     {
-        match Kind::of(letter) {
-            Some(kind) => kind == self,
-            None => false,
-        }
+        Kind::try_from(letter) == Ok(self)
     }
 }

@@ -40,13 +40,12 @@ impl<'a> Line<'a> {
     }
 
     /// The line of the kind due that stands in `text`.
+    #[tactic(auto, using(crate::proofs::Lettering::line_by_grammar))]
     pub fn read(due: Kind, text: &'a [u8]) -> Result<Line<'a>, LineFault>
         ensures value { result_map_both seen (λ e. e) result ≡ line_read due text.now }
         ensures grammar { LineByGrammar due text.now (result_map_both seen (λ e. e) result) }
     {
-        let [first, rest @ ..] = text else {
-            return Err(WordFault::Letter.into());
-        };
+        let (first, rest) = text.split_first().ok_or(WordFault::Letter)?;
         if !due.is(char::from(*first)) {
             return Err(WordFault::Letter.into());
         }

@@ -27,8 +27,5 @@ pub fn faulty_line<'a>(market: &'a [u8], session: &'a [u8], fault: &Fault) -> &'
         Source::Market => market,
         Source::Session => session,
     };
-    match line_at(file, fault.fault.line()) {
-        Some(line) => line,
-        None => &file[0..0],
-    }
+    line_at(file, fault.fault.line()).unwrap_or_default()
 }
