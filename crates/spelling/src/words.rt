@@ -51,6 +51,7 @@ fn malformed_word(text: &[u8]) -> Option<usize>
 
 impl<'a> Words<'a> {
     /// The words of a text, what stands after a line's letter, where none of them is malformed.
+    #[tactic(auto, using(crate::proofs::Sentences::reads_by_grammar))]
     pub fn read(text: &'a [u8]) -> Result<Words<'a>, WordFault>
         ensures value { result_map_both numbers_of (λ e. e) result ≡ words_read text.now }
         ensures grammar { ReadsByGrammar text.now (result_map_both numbers_of (λ e. e) result) }

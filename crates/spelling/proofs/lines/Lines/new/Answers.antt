@@ -1,6 +1,5 @@
-use Rattle.std.proofs.Common.{refl}
 use Rattle.spelling.proofs.Rejoining.{rejoins}
 use Rattle.spelling.proofs.lines.Lines.new.Goals as goal
 
-pub returns : goal.returns
-returns c = record { all = refl; rejoin = rejoins c.args.file.now }
+pub returns-clause-rejoin : goal.returns-clause-rejoin
+returns-clause-rejoin c = rejoins c.args.file.now
