@@ -6,11 +6,6 @@ use Rattle.spelling.proofs.Filing.{lines_step, length_past}
 use Rattle.spelling.proofs.lines.LinesIterator.next.Goals as goal
 use Rattle.std.proofs.iter.Next.{firm}
 
-pub returns-then-is_empty : goal.returns-then-is_empty
-returns-then-is_empty c =
-    let e : lines c.args.self.now.rest.now ≡ [] = ap lines (nil_from_length c.args.self.now.rest.now (eqb-true _ 0 (sym c.if-is_empty.ensures))) in
-    record { steps = (e, e); goes = search rules }
-
 pub returns : goal.returns
 returns c =
     let bs = c.args.self.now.rest.now in
