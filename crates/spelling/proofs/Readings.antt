@@ -5,7 +5,7 @@ use Rattle.std.proofs.lemmas.List.{length-map}
 use Rattle.std.proofs.lemmas.Bool.{cases_Bool, eqb-true, eqb-false, eq-eqb, ne_eqb}
 use Rattle.std.specs.Iterator.{YieldsFirst}
 use Rattle.std.specs.List.{AllByRecursion, position_from}
-use Rattle.std.specs.Option.{is_none, option_map}
+use Rattle.std.specs.Option.{is_none, option_map, some_prefix}
 use Rattle.std.proofs.lemmas.Iterator.{YieldsList}
 use Rattle.std.proofs.lemmas.Iterator.Consumers.{YieldsList-from_first, YieldsList-from_shown}
 use Rattle.spelling.specs.declared.words.Readings.{Readings}
@@ -14,7 +14,7 @@ use Rattle.spelling.specs.Views.{numbers_of, readings_left, Yields}
 use Rattle.spelling.specs.Cuts.{until, since, afters, none}
 use Rattle.spelling.specs.Grammar.{Digit, Word, Spelled, Ends, Small, spell}
 use Rattle.spelling.specs.Reading.{unless, words_read}
-use Rattle.spelling.specs.Words.{spelled, readings, gap, leading, malformed, numbers_in}
+use Rattle.spelling.specs.Words.{spelled, readings, malformed, numbers_in}
 use Rattle.spelling.proofs.Cutting.{until_since, afters_since}
 use Rattle.spelling.proofs.Spelling.{word_from_spelled, spelled_from_word, word_decimal}
 
@@ -33,10 +33,7 @@ readings_space bs =
     ∙ ap (map spelled) (afters_since 32 bs)
     ))
 
--- What is left of a text begins with a stray byte, or with a space and then a word, malformed or not.
-pub turn_stray : (rest : List ℕ) (b : ℕ) (after : List ℕ) → rest ≡ b ∷ after → (b ≡ 32 → ⊥) → readings rest ≡ None ∷ []
-turn_stray rest b after is h = ap readings is ∙ readings_stray b after h
-
+-- What is left of a text begins with a space and then a word, malformed or not.
 pub turn_word : (rest after w next : List ℕ) (o : Option ℕ) → rest ≡ 32 ∷ after → w ≡ until 32 after → next ≡ since 32 after → o ≡ spelled w → readings rest ≡ o ∷ readings next
 turn_word rest after w next o is front back value =
     ap readings is
@@ -44,23 +41,14 @@ turn_word rest after w next o is front back value =
     ∙ ap (λ x. x ∷ readings (since 32 after)) (ap spelled (sym front) ∙ sym value)
     ∙ ap (λ l. o ∷ readings l) (sym back)
 
--- The first reading that is none, counted from 1.
-pub gap_is : (k : ℕ) (os : List (Option ℕ)) → option_map (λ i. i + 1) (position_from is_none k os) ≡ gap (suc k) os
-gap_is k [] = refl
-gap_is k (None ∷ os) = ap Some (add-one k)
-gap_is k (Some n ∷ os) = ap (λ j. option_map (λ i. i + 1) (position_from is_none j os)) (add-one k) ∙ gap_is (suc k) os
-
--- The first of the numbers and the others, or none.
-pub leading_none : (o : Option ℕ) (os : List (Option ℕ)) → o ≡ None → leading (o ∷ os) ≡ []
-leading_none None os e = refl
-leading_none (Some n) os e = let z : ◌≡◌ {A = ℕ} 0 1 = cc in absurd (omega arith)
-
-pub leading_some : (n : ℕ) (o : Option ℕ) (os : List (Option ℕ)) → o ≡ Some n → leading (o ∷ os) ≡ n ∷ leading os
-leading_some n None os e = let z : ◌≡◌ {A = ℕ} 0 1 = cc in absurd (omega arith)
-leading_some n (Some m) os e = let same : m ≡ n = cc in ap (λ k. k ∷ leading os) same
+-- The place of the first reading that is none, counted from one more.
+pub place_more : (k : ℕ) (os : List (Option ℕ)) → option_map (λ i. i + 1) (position_from is_none k os) ≡ position_from is_none (k + 1) os
+place_more k [] = refl
+place_more k (None ∷ os) = refl
+place_more k (Some n ∷ os) = place_more (k + 1) os
 
 -- There are no more numbers than bytes.
-few_leading : (os : List (Option ℕ)) → length (leading os) ≤ length os
+few_leading : (os : List (Option ℕ)) → length (some_prefix os) ≤ length os
 few_leading [] = omega arith
 few_leading (None ∷ os) = omega arith
 few_leading (Some n ∷ os) = omega (arith, few_leading os)
@@ -156,11 +144,11 @@ unspaced_word w n h = All-weaker Digit (λ b. b ≡ 32 → ⊥) (λ b d e. omega
 
 -- ---- from readings to the grammar
 
-sound_words : (k : ℕ) (ws : List (List ℕ)) → gap k (map spelled ws) ≡ None → Spelled (spaced ws) (leading (map spelled ws))
+sound_words : (k : ℕ) (ws : List (List ℕ)) → position_from is_none k (map spelled ws) ≡ None → Spelled (spaced ws) (some_prefix (map spelled ws))
 sound_words k [] e = refl
-sound_words k (w ∷ ws) e = next (spelled w) refl e (sound_words (suc k) ws)
+sound_words k (w ∷ ws) e = next (spelled w) refl e (sound_words (k + 1) ws)
   where
-    next : (o : Option ℕ) → spelled w ≡ o → gap k (o ∷ map spelled ws) ≡ None → (gap (suc k) (map spelled ws) ≡ None → Spelled (spaced ws) (leading (map spelled ws))) → Spelled (spaced (w ∷ ws)) (leading (o ∷ map spelled ws))
+    next : (o : Option ℕ) → spelled w ≡ o → position_from is_none k (o ∷ map spelled ws) ≡ None → (position_from is_none (k + 1) (map spelled ws) ≡ None → Spelled (spaced ws) (some_prefix (map spelled ws))) → Spelled (spaced (w ∷ ws)) (some_prefix (o ∷ map spelled ws))
     next None is f on = let z : ◌≡◌ {A = ℕ} 0 1 = cc in absurd (omega arith)
     next (Some n) is f on = (w, spaced ws, refl, word_from_spelled w n is, on f)
 
@@ -171,11 +159,11 @@ sound text e = at (until 32 text) refl (apart text) e
     ws : List (List ℕ)
     ws = afters 32 text
 
-    at : (front : List ℕ) → until 32 text ≡ front → until 32 text ++ spaced (afters 32 text) ≡ text → gap 1 (cond (none front) (map spelled (afters 32 text)) (None ∷ [])) ≡ None → Spelled text (leading (readings text))
+    at : (front : List ℕ) → until 32 text ≡ front → until 32 text ++ spaced (afters 32 text) ≡ text → position_from is_none 1 (cond (none front) (map spelled (afters 32 text)) (None ∷ [])) ≡ None → Spelled text (some_prefix (readings text))
     at [] is whole f =
         let here : readings text ≡ map spelled (afters 32 text) = ap (λ l. cond (none l) (map spelled (afters 32 text)) (None ∷ [])) is in
         let same : spaced (afters 32 text) ≡ text = sym (ap (λ l. l ++ spaced (afters 32 text)) is) ∙ whole in
-        subst (λ l. Spelled text (leading l)) (sym here) (subst (λ t. Spelled t (leading (map spelled (afters 32 text)))) same (sound_words 1 (afters 32 text) f))
+        subst (λ l. Spelled text (some_prefix l)) (sym here) (subst (λ t. Spelled t (some_prefix (map spelled (afters 32 text)))) same (sound_words 1 (afters 32 text) f))
     at (b ∷ bs) is whole f = let z : ◌≡◌ {A = ℕ} 0 1 = cc in absurd (omega arith)
 
 -- ---- from the grammar to readings
@@ -198,18 +186,18 @@ complete text (n ∷ ns) s =
     ∙ ap (λ l. Some n ∷ readings l) g.1
     ∙ ap (λ l. Some n ∷ l) (complete rest ns s.4)
 
-gap_none : (k : ℕ) (ns : List ℕ) → gap k (map Some ns) ≡ None
+gap_none : (k : ℕ) (ns : List ℕ) → position_from is_none k (map Some ns) ≡ None
 gap_none k [] = refl
-gap_none k (n ∷ ns) = gap_none (suc k) ns
+gap_none k (n ∷ ns) = gap_none (k + 1) ns
 
-leading_all : (ns : List ℕ) → leading (map Some ns) ≡ ns
+leading_all : (ns : List ℕ) → some_prefix (map Some ns) ≡ ns
 leading_all [] = refl
 leading_all (n ∷ ns) = ap (λ l. n ∷ l) (leading_all ns)
 
 pub reads : (text ns : List ℕ) → Spelled text ns → words_read text ≡ Ok ns
 reads text ns s =
     let c = complete text ns s in
-    ap (λ os. unless (gap 1 os) (leading os)) c ∙ ap (λ o. unless o (leading (map Some ns))) (gap_none 1 ns) ∙ ap Ok (leading_all ns)
+    ap (λ os. unless (position_from is_none 1 os) (some_prefix os)) c ∙ ap (λ o. unless o (some_prefix (map Some ns))) (gap_none 1 ns) ∙ ap Ok (leading_all ns)
 
 -- What `spell` writes is spelled.
 pub spell_spelled : (ns : List ℕ) → Small ns → Spelled (spell ns) ns

@@ -1,13 +1,14 @@
 -- The leftmost malformed word, and what reading the words of a text means. Assumes nothing.
 use Rattle.std.proofs.Common.{◌≡◌, ℕ, suc, ◌+◌, ◌≤◌, true, false, cond, eqb, List, [], ◌∷◌, ◌++◌, map, length, Some, None, Ok, Err, Option, Result, sym, refl, ap, ◌∙◌, subst, inl, inr, append_assoc, arith}
 use Rattle.std.proofs.lemmas.Bool.{cases_Bool, eqb-true, eqb-false}
-use Rattle.std.specs.List.{AllByRecursion}
+use Rattle.std.specs.List.{AllByRecursion, position_from}
+use Rattle.std.specs.Option.{is_none}
 use Rattle.spelling.specs.declared.fault.WordFault.{WordFault}
 use Rattle.spelling.specs.declared.fault.WordFault.TheVariants.{Malformed}
 use Rattle.spelling.specs.Cuts.{until, since, afters, none}
 use Rattle.spelling.specs.Grammar.{Spelled, Ends, BeginsWithWord, LeftmostMalformed}
 use Rattle.spelling.specs.Reading.{unless, words_read, ReadsByGrammar}
-use Rattle.spelling.specs.Words.{spelled, readings, gap, malformed, numbers_in}
+use Rattle.spelling.specs.Words.{spelled, readings, malformed, numbers_in}
 use Rattle.spelling.proofs.Spelling.{word_from_spelled, spelled_from_word}
 use Rattle.spelling.proofs.Readings.{readings_stray, readings_space, Unspaced, spaced, spaced_ends, apart, afters_unspaced, cut_after, unspaced_word, sound, reads, spell_spelled}
 
@@ -40,11 +41,11 @@ record Gap (j : ℕ) (text : List ℕ) (k : ℕ) : Type 0 where
   ends : Ends rest
   broken : BeginsWithWord rest → ⊥
 
-gap_words : (j k : ℕ) (ws : List (List ℕ)) → AllByRecursion Unspaced ws → gap j (map spelled ws) ≡ Some k → Gap j (spaced ws) k
+gap_words : (j k : ℕ) (ws : List (List ℕ)) → AllByRecursion Unspaced ws → position_from is_none j (map spelled ws) ≡ Some k → Gap j (spaced ws) k
 gap_words j k [] u e = let z : ◌≡◌ {A = ℕ} 0 1 = cc in absurd (omega arith)
-gap_words j k (w ∷ ws) u e = next (spelled w) refl e (gap_words (suc j) k ws u.1)
+gap_words j k (w ∷ ws) u e = next (spelled w) refl e (gap_words (j + 1) k ws u.1)
   where
-    next : (o : Option ℕ) → spelled w ≡ o → gap j (o ∷ map spelled ws) ≡ Some k → (gap (suc j) (map spelled ws) ≡ Some k → Gap (suc j) (spaced ws) k) → Gap j (spaced (w ∷ ws)) k
+    next : (o : Option ℕ) → spelled w ≡ o → position_from is_none j (o ∷ map spelled ws) ≡ Some k → (position_from is_none (j + 1) (map spelled ws) ≡ Some k → Gap (j + 1) (spaced ws) k) → Gap j (spaced (w ∷ ws)) k
     next None is f on =
         let same : j ≡ k = cc in
         record { before = []; rest = spaced (w ∷ ws); numbers = []; parts = refl; spelled = refl; place = omega arith; more = omega arith; ends = refl; broken = no_word w (spaced ws) u.0 (spaced_ends ws) is }
@@ -77,7 +78,7 @@ some_bytes (c ∷ text) b bs is = omega arith
 pub leftmost : (text : List ℕ) (k : ℕ) → malformed text ≡ Some k → LeftmostMalformed text k
 leftmost text k e = at (until 32 text) refl e
   where
-    at : (front : List ℕ) → until 32 text ≡ front → gap 1 (cond (none front) (map spelled (afters 32 text)) (None ∷ [])) ≡ Some k → LeftmostMalformed text k
+    at : (front : List ℕ) → until 32 text ≡ front → position_from is_none 1 (cond (none front) (map spelled (afters 32 text)) (None ∷ [])) ≡ Some k → LeftmostMalformed text k
     at [] is f =
         let g = gap_words 1 k (afters 32 text) (afters_unspaced text) f in
         let same : spaced (afters 32 text) ≡ text = sym (ap (λ l. l ++ spaced (afters 32 text)) is) ∙ apart text in
@@ -130,16 +131,16 @@ none_first (b ∷ bs) h broken =
     at space None is = (readings (since 32 bs), ap (λ c. readings (c ∷ bs)) space ∙ readings_space bs ∙ ap (λ o. o ∷ readings (since 32 bs)) is)
     at space (Some n) is = absurd (broken (until 32 bs, since 32 bs, n, ap (λ c. c ∷ bs) space ∙ ap (λ l. 32 ∷ l) (sym (join_cut bs)), since_ends bs, word_from_spelled (until 32 bs) n is))
 
-gap_at : (k : ℕ) (ns : List ℕ) (os : List (Option ℕ)) → gap k (map Some ns ++ None ∷ os) ≡ Some (k + length ns)
+gap_at : (k : ℕ) (ns : List ℕ) (os : List (Option ℕ)) → position_from is_none k (map Some ns ++ None ∷ os) ≡ Some (k + length ns)
 gap_at k [] os = let same : k ≡ k + 0 = omega arith in ap Some same
-gap_at k (n ∷ ns) os = let same : suc k + length ns ≡ k + suc (length ns) = omega arith in gap_at (suc k) ns os ∙ ap Some same
+gap_at k (n ∷ ns) os = let same : k + 1 + length ns ≡ k + suc (length ns) = omega arith in gap_at (k + 1) ns os ∙ ap Some same
 
 pub named : (text : List ℕ) (k : ℕ) → LeftmostMalformed text k → malformed text ≡ Some k
 named text k h =
     let g = none_first h.rest h.more h.broken in
     let same : 1 + length h.numbers ≡ k = omega (arith, h.place) in
-    ap (λ l. gap 1 (readings l)) h.parts
-    ∙ ap (gap 1) (after_words h.before h.rest h.numbers h.spelled h.edge ∙ ap (λ os. map Some h.numbers ++ os) g.1)
+    ap (λ l. position_from is_none 1 (readings l)) h.parts
+    ∙ ap (position_from is_none 1) (after_words h.before h.rest h.numbers h.spelled h.edge ∙ ap (λ os. map Some h.numbers ++ os) g.1)
     ∙ gap_at 1 h.numbers g.0
     ∙ ap Some same
 

@@ -1,7 +1,8 @@
 -- One word: what `spelled` reads is what the grammar calls a word, and what `decimal` writes is one. Assumes nothing.
 use Rattle.std.proofs.Common.{◌≡◌, ℕ, ◌+◌, ◌-◌, ◌*◌, ◌^◌, ◌<◌, ◌≤◌, Bool, true, false, cond, not, ◌&&◌, eqb, ltb, leb, List, [], ◌∷◌, length, get_or, Some, None, decimal, Option, sym, refl, ap, ◌∙◌, subst, inl, inr, arith, rules}
 use Rattle.std.proofs.lemmas.Fmt.{digits_decimal, digits_value-decimal, length-decimal-le, decimal_nonempty, first_decimal}
-use Rattle.std.proofs.lemmas.Str.Parse.{IsNumeralModel, numerals_by_fold}
+use Rattle.std.proofs.lemmas.Option.{cond_some}
+use Rattle.std.proofs.lemmas.Str.Parse.{IsNumeralModel, numerals_by_fold, tells_all_ascii_digits}
 use Rattle.std.proofs.lemmas.Bool.{and_parts, and_from, eq-eqb, ne_eqb, cases_Bool, le-leb, leb-true, leb-false, lt-leb, ltb-true, ltb-false, lt-ltb, le-ltb, cases_lt, not-true, not_from_false, and_left, and_right}
 use Rattle.std.specs.Char.{is_ascii_digit}
 use Rattle.std.specs.List.{AllByRecursion}
@@ -12,7 +13,7 @@ use Rattle.spelling.proofs.Trying.{carried}
 
 -- Our words for digits and their number.
 own : IsNumeralModel (λ ds. all_ascii_digits ds ≡ true) (read_on 0)
-own = numerals_by_fold _ (search rules) read_on (search rules)
+own = numerals_by_fold _ tells_all_ascii_digits read_on (search rules)
 
 -- A bound that decimal digits are known for.
 low : (n : ℕ) → n ≤ 65535 → n < 2 ^ 64
@@ -21,18 +22,11 @@ low n h = omega arith
 -- The test for digits tells just the digits.
 digits_from_test : (bs : List ℕ) → all_ascii_digits bs ≡ true → AllByRecursion Digit bs
 digits_from_test [] e = tt
-digits_from_test (b ∷ bs) e =
-    let p = and_parts (is_ascii_digit b) (all_ascii_digits bs) e in
-    let q = and_parts (leb 48 b) (leb b 57) p.0 in
-    ((leb-true 48 b q.0, leb-true b 57 q.1), digits_from_test bs p.1)
+digits_from_test (b ∷ bs) e = let p = tells_all_ascii_digits.parts b bs e in (p.0, digits_from_test bs p.1)
 
 test_from_digits : (bs : List ℕ) → AllByRecursion Digit bs → all_ascii_digits bs ≡ true
 test_from_digits [] d = refl
-test_from_digits (b ∷ bs) d = and_from _ _ (and_from _ _ (le-leb 48 b d.0.0) (le-leb b 57 d.0.1)) (test_from_digits bs d.1)
-
-some_is : (b : Bool) (x n : ℕ) → cond b (Some x) None ≡ Some n → (b ≡ true) × (x ≡ n)
-some_is true x n e = (refl, cc)
-some_is false x n e = let z : ◌≡◌ {A = ℕ} 0 1 = cc in absurd (omega arith)
+test_from_digits (b ∷ bs) d = tells_all_ascii_digits.more b bs d.0 (test_from_digits bs d.1)
 
 -- The first digit is 0 only if it is the only one.
 no_lead : (bs : List ℕ) → not (eqb (get_or bs 0 0) 48 && ltb 1 (length bs)) ≡ true → 0 < length bs → get_or bs 0 0 ≡ 48 → length bs ≡ 1
@@ -49,7 +43,7 @@ led bs h =
 
 pub word_from_spelled : (w : List ℕ) (n : ℕ) → spelled w ≡ Some n → Word w n
 word_from_spelled w n e =
-    let s = some_is (spells w) (read_on 0 w) n e in
+    let s = cond_some (spells w) (read_on 0 w) n e in
     let p = and_parts (shaped w && all_ascii_digits w) (leb (read_on 0 w) 65535) s.0 in
     let q = and_parts (shaped w) (all_ascii_digits w) p.0 in
     let r = and_parts (ltb 0 (length w) && leb (length w) 5) (not (eqb (get_or w 0 0) 48 && ltb 1 (length w))) q.0 in

@@ -1,6 +1,8 @@
 -- What a word's bytes spell, and the words of a text.
 use Rattle.std.specs.Prelude.{ℕ, suc, ◌+◌, ◌-◌, ◌*◌, Bool, cond, not, ◌&&◌, List, [], ◌∷◌, map, length, Some, None, Option, ◌==◌, nat_le, nat_lt, slice_index}
 use Rattle.std.specs.Char.{is_ascii_digit}
+use Rattle.std.specs.List.{position_from}
+use Rattle.std.specs.Option.{is_none, some_prefix}
 use Rattle.std.specs.Str.{all_ascii_digits}
 use Rattle.spelling.specs.Cuts.{until, afters, none}
 
@@ -29,22 +31,10 @@ spelled bs = cond (spells bs) (Some (read_on 0 bs)) None
 abbrev pub readings : List ℕ → List (Option ℕ)
 readings bs = cond (none (until 32 bs)) (map spelled (afters 32 bs)) (None ∷ [])
 
--- The place of the first reading that is none, where the first reading has place k.
-abbrev pub gap : ℕ → List (Option ℕ) → Option ℕ
-gap k [] = None
-gap k (None ∷ os) = Some k
-gap k (Some n ∷ os) = gap (suc k) os
-
--- The readings up to the first that is none.
-abbrev pub leading : List (Option ℕ) → List ℕ
-leading [] = []
-leading (None ∷ os) = []
-leading (Some n ∷ os) = n ∷ leading os
-
 -- The place, from 1, of the leftmost malformed word of a text, where there is one.
 abbrev pub malformed : List ℕ → Option ℕ
-malformed bs = gap 1 (readings bs)
+malformed bs = position_from is_none 1 (readings bs)
 
 -- The numbers of the words of a text, up to its leftmost malformed word.
 abbrev pub numbers_in : List ℕ → List ℕ
-numbers_in bs = leading (readings bs)
+numbers_in bs = some_prefix (readings bs)
