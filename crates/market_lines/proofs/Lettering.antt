@@ -1,5 +1,5 @@
 -- The letters of the kinds, and reading a line by them. Assumes nothing.
-use Rattle.std.proofs.Common.{◌≡◌, ℕ, cond, eqb, ◌⊎◌, List, [], ◌∷◌, Some, Ok, Err, Option, Result, sym, refl, ap, ◌∙◌, subst, inl, inr, arith}
+use Rattle.std.proofs.Common.{◌≡◌, ℕ, cond, eqb, ◌⊎◌, List, [], ◌∷◌, Some, Ok, Err, Option, Result, sym, refl, ap, ◌∙◌, subst, inl, inr}
 use Rattle.std.proofs.lemmas.Bool.{cases_Bool, eqb-true, eqb-false, eq-eqb}
 use Rattle.spelling.specs.declared.fault.WordFault.{WordFault}
 use Rattle.spelling.specs.declared.fault.WordFault.TheVariants.{Letter, Malformed}
@@ -41,15 +41,15 @@ worded_ok : (k : Kind) (text : List ℕ) (ws : Result (List ℕ) WordFault) (l :
 worded_ok k text (Ok ns) l e =
     let is : l ≡ whole k text ns = cc in
     (ap (λ x. Ok x.numbers) (sym is), is ∙ ap (λ x. whole k text x.numbers) (sym is))
-worded_ok k text (Err f) l e = let z : ◌≡◌ {A = ℕ} 0 1 = cc in absurd (omega arith)
+worded_ok k text (Err f) l e = cc
 
 worded_err : (k : Kind) (text : List ℕ) (ws : Result (List ℕ) WordFault) (e : LineFault) → worded k text ws ≡ Err e → (f : WordFault) × (ws ≡ Err f) × (e ≡ InWord f)
-worded_err k text (Ok ns) e h = let z : ◌≡◌ {A = ℕ} 0 1 = cc in absurd (omega arith)
+worded_err k text (Ok ns) e h = cc
 worded_err k text (Err f) e h = (f, refl, cc)
 
 -- A line begins with the letter due, or has the fault of its letter.
 letter_or_fault : (k : Kind) (text : List ℕ) → ((rest : List ℕ) × (text ≡ letter_of k ∷ rest)) ⊎ ((line_read k text ≡ Err (InWord Letter)) × LetterMissing k text)
-letter_or_fault k [] = inr (refl, λ rest e. let z : ◌≡◌ {A = ℕ} 0 1 = cc in omega arith)
+letter_or_fault k [] = inr (refl, λ rest e. cc)
 letter_or_fault k (b ∷ bs) =
     elim (cases_Bool (eqb b (letter_of k))) [
       | inl e ↦ inl (bs, ap (λ c. c ∷ bs) (eqb-true b (letter_of k) e))
@@ -88,7 +88,7 @@ line_by_grammar k text r e = at (letter_or_fault k text)
     at (inr t) =
         let is : r ≡ Err (InWord Letter) = e ∙ t.0 in
         record {
-          sound = λ l h. let z : ◌≡◌ {A = ℕ} 0 1 = cc in absurd (omega arith);
+          sound = λ l h. cc;
           complete = λ ns s. absurd (t.1 s.0 s.1);
           fault = λ f h. let same : InWord Letter ≡ f = cc in subst (λ y. Misread k y text) same t.1;
           named = λ f h. e ∙ misread k text f h;

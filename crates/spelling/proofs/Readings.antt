@@ -1,5 +1,5 @@
 -- The words of a text: reading them from the left, and the numbers that they spell. Assumes nothing.
-use Rattle.std.proofs.Common.{◌≡◌, ℕ, suc, ◌+◌, ◌≤◌, true, false, cond, eqb, List, [], ◌∷◌, ◌++◌, map, length, Some, None, Ok, decimal, Option, sym, refl, ap, ◌∙◌, subst, inl, inr, add-one, arith}
+use Rattle.std.proofs.Common.{◌≡◌, ℕ, suc, ◌+◌, ◌≤◌, true, false, cond, eqb, List, [], ◌∷◌, ◌++◌, map, length, Some, None, Ok, decimal, Option, sym, refl, ap, ◌∙◌, subst, inl, inr, arith}
 use Rattle.std.proofs.ByRecursion.{All-weaker}
 use Rattle.std.proofs.lemmas.List.{length-map}
 use Rattle.std.proofs.lemmas.Bool.{cases_Bool, eqb-true, eqb-false, eq-eqb, ne_eqb}
@@ -149,7 +149,7 @@ sound_words k [] e = refl
 sound_words k (w ∷ ws) e = next (spelled w) refl e (sound_words (k + 1) ws)
   where
     next : (o : Option ℕ) → spelled w ≡ o → position_from is_none k (o ∷ map spelled ws) ≡ None → (position_from is_none (k + 1) (map spelled ws) ≡ None → Spelled (spaced ws) (some_prefix (map spelled ws))) → Spelled (spaced (w ∷ ws)) (some_prefix (o ∷ map spelled ws))
-    next None is f on = let z : ◌≡◌ {A = ℕ} 0 1 = cc in absurd (omega arith)
+    next None is f on = cc
     next (Some n) is f on = (w, spaced ws, refl, word_from_spelled w n is, on f)
 
 -- A text whose readings have no gap spells them.
@@ -164,7 +164,7 @@ sound text e = at (until 32 text) refl (apart text) e
         let here : readings text ≡ map spelled (afters 32 text) = ap (λ l. cond (none l) (map spelled (afters 32 text)) (None ∷ [])) is in
         let same : spaced (afters 32 text) ≡ text = sym (ap (λ l. l ++ spaced (afters 32 text)) is) ∙ whole in
         subst (λ l. Spelled text (some_prefix l)) (sym here) (subst (λ t. Spelled t (some_prefix (map spelled (afters 32 text)))) same (sound_words 1 (afters 32 text) f))
-    at (b ∷ bs) is whole f = let z : ◌≡◌ {A = ℕ} 0 1 = cc in absurd (omega arith)
+    at (b ∷ bs) is whole f = cc
 
 -- ---- from the grammar to readings
 

@@ -26,8 +26,7 @@ no_word w rest u ends none b =
     let same : w ++ rest ≡ v ++ after = same_tail 32 (w ++ rest) (v ++ after) b.3 in
     let is : w ≡ v = sym (cut_after w rest u ends).0 ∙ ap (until 32) same ∙ (cut_after v after (unspaced_word v n b.5) b.4).0 in
     let one : ◌≡◌ {A = Option ℕ} None (Some n) = sym none ∙ ap spelled is ∙ spelled_from_word v n b.5 in
-    let z : ◌≡◌ {A = ℕ} 0 1 = cc in
-    omega arith
+    cc
 
 -- A gap among words: those before it are spelled.
 record Gap (j : ℕ) (text : List ℕ) (k : ℕ) : Type 0 where
@@ -42,7 +41,7 @@ record Gap (j : ℕ) (text : List ℕ) (k : ℕ) : Type 0 where
   broken : BeginsWithWord rest → ⊥
 
 gap_words : (j k : ℕ) (ws : List (List ℕ)) → AllByRecursion Unspaced ws → position_from is_none j (map spelled ws) ≡ Some k → Gap j (spaced ws) k
-gap_words j k [] u e = let z : ◌≡◌ {A = ℕ} 0 1 = cc in absurd (omega arith)
+gap_words j k [] u e = cc
 gap_words j k (w ∷ ws) u e = next (spelled w) refl e (gap_words (j + 1) k ws u.1)
   where
     next : (o : Option ℕ) → spelled w ≡ o → position_from is_none j (o ∷ map spelled ws) ≡ Some k → (position_from is_none (j + 1) (map spelled ws) ≡ Some k → Gap (j + 1) (spaced ws) k) → Gap j (spaced (w ∷ ws)) k
@@ -68,11 +67,10 @@ stray : (text : List ℕ) (b : ℕ) (bs : List ℕ) → until 32 text ≡ b ∷ 
 stray text b bs is w =
     let none : until 32 text ≡ [] = ap (until 32) w.3 in
     let both : ◌≡◌ {A = List ℕ} (b ∷ bs) [] = sym is ∙ none in
-    let z : ◌≡◌ {A = ℕ} 0 1 = cc in
-    omega arith
+    cc
 
 some_bytes : (text : List ℕ) (b : ℕ) (bs : List ℕ) → until 32 text ≡ b ∷ bs → 1 ≤ length text
-some_bytes [] b bs is = let z : ◌≡◌ {A = ℕ} 0 1 = cc in absurd (omega arith)
+some_bytes [] b bs is = cc
 some_bytes (c ∷ text) b bs is = omega arith
 
 pub leftmost : (text : List ℕ) (k : ℕ) → malformed text ≡ Some k → LeftmostMalformed text k
@@ -156,14 +154,14 @@ reads_by_grammar text r e = at (malformed text) refl
           sound = λ ns h. let same : numbers_in text ≡ ns = cc in subst (Spelled text) same (sound text is);
           complete = λ ns s. e ∙ reads text ns s;
           returns = λ ns small t. e ∙ reads text ns (subst (λ l. Spelled l ns) (sym t) (spell_spelled ns small));
-          leftmost = λ k h. let z : ◌≡◌ {A = ℕ} 0 1 = cc in absurd (omega arith);
+          leftmost = λ k h. cc;
           named = λ k h. e ∙ ap (λ o. unless o (numbers_in text)) (named text k h);
-          only = λ f h. let z : ◌≡◌ {A = ℕ} 0 1 = cc in absurd (omega arith);
+          only = λ f h. cc;
         }
     at (Some k) is =
         let bad : r ≡ Err (Malformed k) = e ∙ ap (λ o. unless o (numbers_in text)) is in
         record {
-          sound = λ ns h. let z : ◌≡◌ {A = ℕ} 0 1 = cc in absurd (omega arith);
+          sound = λ ns h. cc;
           complete = λ ns s. e ∙ reads text ns s;
           returns = λ ns small t. e ∙ reads text ns (subst (λ l. Spelled l ns) (sym t) (spell_spelled ns small));
           leftmost = λ j h. let same : k ≡ j = cc in leftmost text j (is ∙ ap Some same);

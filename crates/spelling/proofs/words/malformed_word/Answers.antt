@@ -16,5 +16,6 @@ pub returns : goal.returns
 returns c =
     let os = readings c.args.text.now in
     let is_mapped : c.map.result ≡ option_map (λ i. i + 1) c.position.result = search rules in
-    let found = position_from_yields_List is_none c.position.new.self _ c.position.result c.position.ensures.ran (readings_road (record { rest = c.args.text })) (λ x b q k. search (rules, tests)) in
-    is_mapped ∙ ap (option_map (λ i. i + 1)) (found ∙ position_from-zero is_none os) ∙ place_more 0 os
+    is_mapped
+    ∙ ap (option_map (λ i. i + 1)) (position_from_yields_List is_none c.position.new.self _ c.position.result c.position.ensures.ran (readings_road (record { rest = c.args.text })) (λ x b q k. search (rules, tests)) ∙ position_from-zero is_none os)
+    ∙ place_more 0 os
