@@ -46,7 +46,9 @@ fn malformed_word(text: &[u8]) -> Option<usize>
     ensures { result ≡ malformed text.now }
 {
     let mut readings = Readings { rest: text };
-    readings.position(|reading| reading.is_none()).map(|i| i + 1)
+    readings
+        .position(|reading| reading.is_none())
+        .map(|i| i + 1)
 }
 
 impl<'a> Words<'a> {
@@ -66,7 +68,9 @@ impl<'a> Words<'a> {
     pub fn after_letter(line: &'a [u8]) -> Words<'a>
         ensures { numbers_of result ≡ numbers_in (drop 1 line.now) }
     {
-        Words { rest: line.get(1..).unwrap_or_default() }
+        Words {
+            rest: line.get(1..).unwrap_or_default(),
+        }
     }
 
     /// How many words are still to come.
