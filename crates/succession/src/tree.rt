@@ -57,6 +57,8 @@ fn child_of(nodes: &[Node], place: Place, number: usize, took: u16) -> Option<us
     ensures value { result ≡ node_from number place.number number took (drop number nodes.now) }
     ensures within { IfSome result (λ i. (number ≤ i) × (i < length nodes.now)) }
 {
+    // Kept: the fields, not a `Branch`, since a number may be above what a `Branch` holds. Tried: the proof that no node
+    // has such a parent did not close.
     nodes
         .get(number..)?
         .iter()
