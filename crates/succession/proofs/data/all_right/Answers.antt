@@ -1,30 +1,27 @@
-use Rattle.std.proofs.Common.{◌≡◌, ℕ, ◌-◌, Bool, true, false, List, get_or, take, sym, ap, ◌∙◌, arith}
-use Rattle.std.proofs.lemmas.List.{at_drop_all}
+use Rattle.std.proofs.Common.{◌≡◌, ◌+◌, ◌-◌, Bool, ◌&&◌, List, [], ◌∷◌, ◌++◌, length, take, rules, tests, append_assoc, length-append, sym, refl, ap, ◌∙◌, arith}
+use Rattle.std.proofs.lemmas.Iterator.{YieldsList-from_slice}
+use Rattle.std.proofs.lemmas.Iterator.Consumers.{YieldsList-from_enumerate}
+use Rattle.std.proofs.lemmas.Iterator.Search.{all_from_yields_List}
+use Rattle.std.proofs.lemmas.List.{take-append-le, take_all}
+use Rattle.std.specs.List.{enumerate_from, list_all}
 use Rattle.succession.specs.Right.{entry_right}
 use Rattle.succession.specs.Scans.{each_after}
-use Rattle.succession.proofs.Scanning.{each_stop, each_more}
 use Rattle.succession.proofs.data.all_right.Goals as goal
 
--- The entries before index i and the entry at it, as the code has them.
-as_read : {X : Type 0} (p : List X → X → Bool) (xs : List X) (i : ℕ) (x : X) (t : Bool) → x ≡ get_or xs i x → t ≡ p (take (i - 0) xs) x → p (take i xs) (get_or xs i x) ≡ t
-as_read p xs i x t here e = let same : i ≡ i - 0 = omega arith in ap (λ n. p (take n xs) (get_or xs i x)) same ∙ ap (p (take (i - 0) xs)) (sym here) ∙ sym e
-
-pub returns-then-not-is_right : goal.returns-then-not-is_right
-returns-then-not-is_right g c =
-    let p = entry_right g.E.Entry.alike (g.E.Entry.sound c.args.agents c.args.places) in
-    let xs = c.args.entries.now in
-    let x = c.index-entries-i.result in
-    sym (each_stop p xs c.loop-i.i x c.loop-i-test.true (as_read p xs c.loop-i.i x false c.index-entries-i.is c.if-not-is_right.ensures)) ∙ c.loop-i.invariant
-
-pub loop-i-preserved : goal.loop-i-preserved
-loop-i-preserved g c =
-    let p = entry_right g.E.Entry.alike (g.E.Entry.sound c.args.agents c.args.places) in
-    let xs = c.args.entries.now in
-    let x = c.index-entries-i.result in
-    sym (each_more p xs c.loop-i.i x c.loop-i-test.true (as_read p xs c.loop-i.i x true c.index-entries-i.is c.if-not-is_right.ensures)) ∙ c.loop-i.invariant
+-- Each entry after those before it, by its index.
+each_numbered : {X : Type 0} (p : List X → X → Bool) (seen xs : List X) → list_all (λ e. p (take (e.0 - 0) (seen ++ xs)) e.1) (enumerate_from (length seen) xs) ≡ each_after p seen xs
+each_numbered p seen [] = refl
+each_numbered p seen (x ∷ xs) =
+    let front : take (length seen - 0) (seen ++ x ∷ xs) ≡ seen = take-append-le (length seen - 0) seen (x ∷ xs) (omega arith) ∙ take_all (length seen - 0) seen (omega arith) in
+    let count : length seen + 1 ≡ length (seen ++ x ∷ []) = omega (arith, length-append seen (x ∷ [])) in
+    ap (λ l. p l x && list_all (λ e. p (take (e.0 - 0) (seen ++ x ∷ xs)) e.1) (enumerate_from (length seen + 1) xs)) front
+    ∙ ap (λ l. p seen x && list_all (λ e. p (take (e.0 - 0) l) e.1) (enumerate_from (length seen + 1) xs)) (sym (append_assoc seen (x ∷ []) xs))
+    ∙ ap (λ n. p seen x && list_all (λ e. p (take (e.0 - 0) ((seen ++ x ∷ []) ++ xs)) e.1) (enumerate_from n xs)) count
+    ∙ ap (λ t. p seen x && t) (each_numbered p (seen ++ x ∷ []) xs)
 
 pub returns : goal.returns
 returns g c =
-    let p = entry_right g.E.Entry.alike (g.E.Entry.sound c.args.agents c.args.places) in
+    let p = entry_right g.E.Entry.alike (g.E.Entry.sound c.args.sizes.agents c.args.sizes.places) in
     let xs = c.args.entries.now in
-    sym (at_drop_all (each_after p (take c.loop-i.i xs)) xs c.loop-i.i c.loop-i-test.false) ∙ c.loop-i.invariant
+    all_from_yields_List (λ e. p (take (e.0 - 0) xs) e.1) _ _ _ c.all.ensures.ran (YieldsList-from_enumerate (YieldsList-from_slice xs (search rules)) c.enumerate.ensures.count) (λ e b q called. search (rules, tests))
+    ∙ each_numbered p [] xs
