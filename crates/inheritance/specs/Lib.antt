@@ -1,3 +1,4 @@
+pub mod Claims
 pub mod Making
 pub mod Meanings
 pub mod Questions

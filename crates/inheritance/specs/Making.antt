@@ -34,10 +34,18 @@ pub record MadeExactly {X : Type 0} (Right : Type 0) (r : Result X Refusal) : Ty
   pub right : (x : X) → r ≡ Ok x → Right
   pub refused : (Right → ⊥) → r ≡ Err Rule
 
--- What is right for a queue: sizes in range, and an order of all agents.
-pub record QueueRight (n m : ℕ) (order : List Agent) : Type 0 where
+-- What is right for a rule by orders: sizes in range, and orders of all agents.
+pub record OrderedRight (n m : ℕ) (Orders : Type 0) : Type 0 where
   pub sizes : SizesRight n m
-  pub all : OrderOf n order
+  pub all : Orders
+
+-- What making a rule by orders answers, by the test of the orders.
+abbrev pub ordered_made : {X : Type 0} → Bool → ℕ → ℕ → X → Result X Refusal
+ordered_made fits n m x = made_if (sizes_fit n m && fits) x
+
+-- What is right for a queue: sizes in range, and an order of all agents.
+abbrev pub QueueRight : ℕ → ℕ → List Agent → Type 0
+QueueRight n m order = OrderedRight n m (OrderOf n order)
 
 -- The same, as a test.
 abbrev pub queue_fits : ℕ → ℕ → List Agent → Bool
@@ -48,9 +56,8 @@ abbrev pub queue_made : ℕ → ℕ → List Agent → Result QueueData Refusal
 queue_made n m order = made_if (queue_fits n m order) (record { agents = n; places = m; order = order })
 
 -- What is right for priorities: sizes in range, and an order of all agents for each place.
-pub record PrioritiesRight (n m : ℕ) (orders : List (List Agent)) : Type 0 where
-  pub sizes : SizesRight n m
-  pub all : OrdersOf n m orders
+abbrev pub PrioritiesRight : ℕ → ℕ → List (List Agent) → Type 0
+PrioritiesRight n m orders = OrderedRight n m (OrdersOf n m orders)
 
 -- The same, as a test.
 abbrev pub priorities_fit : ℕ → ℕ → List (List Agent) → Bool
@@ -59,6 +66,10 @@ priorities_fit n m orders = sizes_fit n m && are_orders n m orders
 -- What making priorities answers.
 abbrev pub priorities_made : ℕ → ℕ → List (List Agent) → Result PrioritiesData Refusal
 priorities_made n m orders = made_if (priorities_fit n m orders) (record { agents = n; places = m; orders = orders })
+
+-- What making a layer over a rule answers, by the test of its entries.
+abbrev pub layer_made : {R X : Type 0} → (ℕ → ℕ → List X → Bool) → Terms → R → List X → Result (Layer R X) Refusal
+layer_made fits T below entries = made_if (fits T.agents T.places entries) (layer_of below entries)
 
 -- What is right for a tree over a rule: nodes that are right for its agents and places.
 abbrev pub TreeRight : Terms → List Node → Type 0

@@ -7,6 +7,7 @@ use crate::question::question_fits;
 use market::agent::Agent;
 use market::place::Place;
 use market::refusal::Refusal;
+use market::sizes::Sizes;
 use market::standing::Standing;
 
 /// An inheritance rule, which never changes once it is made.
@@ -18,13 +19,10 @@ pub trait Rule {
     /// waits.
     ghost lawful: { (rule : Self) → Lawful (terms rule) };
 
-    /// How many agents the rule is for.
-    fn agents(&self) -> u16
-        ensures { result ≡ (terms self.now).agents };
-
-    /// How many places the rule is for.
-    fn places(&self) -> u16
-        ensures { result ≡ (terms self.now).places };
+    /// How many agents and places the rule is for.
+    fn sizes(&self) -> Sizes
+        ensures agents { result.agents ≡ (terms self.now).agents }
+        ensures places { result.places ≡ (terms self.now).places };
 
     /// The owner of a place in a row, unchecked: for a caller that knows that the question is proper, as one that asks
     /// many questions about one row.
@@ -37,7 +35,7 @@ pub fn owner_of<R: Rule>(rule: &R, row: &[Standing], place: Place) -> Result<Age
     ensures value { result ≡ owner_answer (R.Rule.terms rule.now) row.now place }
     ensures law { QuestionLaw (R.Rule.terms rule.now) row.now place result }
 {
-    if question_fits(rule.agents(), rule.places(), row, place) {
+    if question_fits(rule.sizes(), row, place) {
         Ok(rule.owner(row, place))
     } else {
         Err(Refusal::Question)
