@@ -9,12 +9,13 @@ use Rattle.market.specs.declared.place.Place.{Place}
 use Rattle.market.specs.declared.standing.Standing.{Standing}
 use Rattle.market.specs.declared.standing.Standing.TheVariants.{Waiting, Placed, Unplaced}
 use Rattle.market.specs.Data.{ParentRight, Unlike, NodeRight, NodesRightAfter, TreeOf}
+use Rattle.market.specs.Nodes.{is_node, at_place, parent_fits}
 use Rattle.market.specs.Rows.{Row, standing, Waits}
 use Rattle.market.specs.Rules.{Terms}
 use Rattle.succession.specs.Ranges.{agent_fits, place_fits}
 use Rattle.succession.specs.Right.{entry_right}
 use Rattle.succession.specs.Scans.{any_of, each_after}
-use Rattle.succession.specs.Trees.{is_node, same_node, at_place, parent_fits, node_fits, is_tree, taken_by, go_on, walk_from, heir_claims, DepartedWith, WalkComesTo, at_root, to_child, HeirByWalk, TreeOwns}
+use Rattle.succession.specs.Trees.{same_node, node_fits, is_tree, taken_by, go_on, walk_from, heir_claims, DepartedWith, WalkComesTo, at_root, to_child, HeirByWalk, TreeOwns}
 use Rattle.succession.proofs.Firsts.{none≢some}
 use Rattle.succession.proofs.Ordering.{all_nth}
 use Rattle.succession.proofs.Ranging.{agent_right, agent_fits_true, place_right, place_fits_true}

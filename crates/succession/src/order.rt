@@ -8,6 +8,7 @@ use crate::data::{Entry, all_right};
 use crate::range::agent_fits;
 use crate::row::is_waiting;
 use market::agent::Agent;
+use market::sizes::Sizes;
 use market::standing::Standing;
 
 impl Entry for Agent {
@@ -19,8 +20,8 @@ impl Entry for Agent {
         other.number == self.number
     }
 
-    fn is_sound(&self, agents: u16, _places: u16, _earlier: &[Agent]) -> bool {
-        agent_fits(agents, *self)
+    fn is_sound(&self, sizes: Sizes, _earlier: &[Agent]) -> bool {
+        agent_fits(sizes.agents, *self)
     }
 }
 
@@ -28,7 +29,7 @@ impl Entry for Agent {
 pub fn is_order(agents: u16, order: &[Agent]) -> bool
     ensures { result ≡ is_order agents order.now }
 {
-    order.len() == usize::from(agents) && all_right(agents, 0, order)
+    order.len() == usize::from(agents) && all_right(Sizes { agents, places: 0 }, order)
 }
 
 /// The first agent of a list that waits.

@@ -7,6 +7,7 @@ ghost use Rattle.succession.specs.Scans.{every_of};
 use crate::order::is_order;
 use market::agent::Agent;
 use market::place::Place;
+use market::sizes::Sizes;
 
 /// Whether each list is an order of all agents.
 fn each_order(agents: u16, orders: &[Vec<Agent>]) -> bool
@@ -21,10 +22,10 @@ fn each_order(agents: u16, orders: &[Vec<Agent>]) -> bool
 }
 
 /// Whether lists are orders of all agents, one for each place.
-pub fn are_orders(agents: u16, places: u16, orders: &[Vec<Agent>]) -> bool
-    ensures { result ≡ are_orders agents places (map vec_items orders.now) }
+pub fn are_orders(sizes: Sizes, orders: &[Vec<Agent>]) -> bool
+    ensures { result ≡ are_orders sizes.agents sizes.places (map vec_items orders.now) }
 {
-    orders.len() == usize::from(places) && each_order(agents, orders)
+    orders.len() == usize::from(sizes.places) && each_order(sizes.agents, orders)
 }
 
 /// The order of a place. What is no place has an empty one.

@@ -7,6 +7,7 @@ use crate::range::{agent_fits, place_fits};
 use crate::row::is_waiting;
 use market::agent::Agent;
 use market::place::Place;
+use market::sizes::Sizes;
 use market::standing::Standing;
 use market::tenant::Tenant;
 
@@ -19,16 +20,16 @@ impl Entry for Tenant {
         other.place.number == self.place.number
     }
 
-    fn is_sound(&self, agents: u16, places: u16, _earlier: &[Tenant]) -> bool {
-        place_fits(places, self.place) && agent_fits(agents, self.agent)
+    fn is_sound(&self, sizes: Sizes, _earlier: &[Tenant]) -> bool {
+        place_fits(sizes.places, self.place) && agent_fits(sizes.agents, self.agent)
     }
 }
 
 /// Whether a list is one of tenants: each place and each agent in range, and no place twice.
-pub fn are_tenants(agents: u16, places: u16, tenants: &[Tenant]) -> bool
-    ensures { result ≡ are_tenants agents places tenants.now }
+pub fn are_tenants(sizes: Sizes, tenants: &[Tenant]) -> bool
+    ensures { result ≡ are_tenants sizes.agents sizes.places tenants.now }
 {
-    all_right(agents, places, tenants)
+    all_right(sizes, tenants)
 }
 
 /// Whether a tenant has the place and waits.

@@ -11,20 +11,20 @@ as_read p xs i x t here e = let same : i ≡ i - 0 = omega arith in ap (λ n. p 
 
 pub returns-then-not-is_right : goal.returns-then-not-is_right
 returns-then-not-is_right g c =
-    let p = entry_right g.E.Entry.alike (g.E.Entry.sound c.args.agents c.args.places) in
+    let p = entry_right g.E.Entry.alike (g.E.Entry.sound c.args.sizes.agents c.args.sizes.places) in
     let xs = c.args.entries.now in
     let x = c.index-entries-i.result in
     sym (each_stop p xs c.loop-i.i x c.loop-i-test.true (as_read p xs c.loop-i.i x false c.index-entries-i.is c.if-not-is_right.ensures)) ∙ c.loop-i.invariant
 
 pub loop-i-preserved : goal.loop-i-preserved
 loop-i-preserved g c =
-    let p = entry_right g.E.Entry.alike (g.E.Entry.sound c.args.agents c.args.places) in
+    let p = entry_right g.E.Entry.alike (g.E.Entry.sound c.args.sizes.agents c.args.sizes.places) in
     let xs = c.args.entries.now in
     let x = c.index-entries-i.result in
     sym (each_more p xs c.loop-i.i x c.loop-i-test.true (as_read p xs c.loop-i.i x true c.index-entries-i.is c.if-not-is_right.ensures)) ∙ c.loop-i.invariant
 
 pub returns : goal.returns
 returns g c =
-    let p = entry_right g.E.Entry.alike (g.E.Entry.sound c.args.agents c.args.places) in
+    let p = entry_right g.E.Entry.alike (g.E.Entry.sound c.args.sizes.agents c.args.sizes.places) in
     let xs = c.args.entries.now in
     sym (at_drop_all (each_after p (take c.loop-i.i xs)) xs c.loop-i.i c.loop-i-test.false) ∙ c.loop-i.invariant
