@@ -2,6 +2,7 @@
 use Rattle.std.specs.Prelude.{List, map, vec_items}
 use Rattle.std.specs.Borrow.{Bor}
 use Rattle.std.specs.declared.vec.Vec.{Vec}
+use Rattle.std.specs.declared.alloc.Global.{Global}
 use Rattle.market.specs.declared.agent.Agent.{Agent}
 use Rattle.market.specs.Rules.{Terms, Lawful}
 use Rattle.succession.proofs.Ordering.{ordered_lawful}
@@ -16,7 +17,7 @@ abbrev pub queue_data : Ordered (Bor (List Agent)) → QueueData
 queue_data q = record { agents = q.sizes.agents; places = q.sizes.places; order = q.orders.now }
 
 -- What priorities are made of.
-abbrev pub priorities_data : Ordered (Bor (List (Vec Agent))) → PrioritiesData
+abbrev pub priorities_data : Ordered (Bor (List (Vec Agent Global))) → PrioritiesData
 priorities_data q = record { agents = q.sizes.agents; places = q.sizes.places; orders = map vec_items q.orders.now }
 
 -- What a rule that is either a queue or priorities means.

@@ -47,6 +47,10 @@ impl<'a, R: Rule, C: Claim> Rule for Layer<'a, R, C> {
     }
 
     fn owner(&self, row: &[Standing], place: Place) -> Agent {
-        C::claimant(self.entries, row, place).unwrap_or_else(|| self.below.owner(row, place))
+        // Kept: a closure for `unwrap_or_else` needs a clause and a proof of its own, so it is no plainer.
+        match C::claimant(self.entries, row, place) {
+            Some(claimant) => claimant,
+            None => self.below.owner(row, place),
+        }
     }
 }

@@ -34,7 +34,7 @@ impl<'a> Orders for &'a [Vec<Agent>] {
     };
 
     fn are_right(&self, sizes: Sizes) -> bool {
-        are_orders(sizes.agents, sizes.places, self)
+        are_orders(sizes, self)
     }
 
     fn order_for(&self, place: Place) -> &[Agent] {

@@ -1,8 +1,8 @@
 // The owner question: when it is proper.
 ghost use Rattle.std.specs.Prelude.{◌≡◌};
+ghost use Rattle.std.specs.List.{list_all, list_any};
 ghost use Rattle.market.specs.Rows.{is_waiting};
 ghost use Rattle.inheritance.specs.Questions.{standing_fits, question_fits};
-ghost use Rattle.succession.specs.Scans.{every_of, any_of};
 
 use market::place::Place;
 use market::sizes::Sizes;
@@ -22,7 +22,7 @@ fn standing_fits(places: u16, standing: Standing) -> bool
 
 /// Whether no standing of a row has a place out of range.
 fn row_fits(places: u16, row: &[Standing]) -> bool
-    ensures { result ≡ every_of (standing_fits places) row.now }
+    ensures { result ≡ list_all (standing_fits places) row.now }
 {
     row.iter()
         .all(|standing| standing_fits(places, *standing))
@@ -30,7 +30,7 @@ fn row_fits(places: u16, row: &[Standing]) -> bool
 
 /// Whether somebody waits in a row.
 fn somebody_waits(row: &[Standing]) -> bool
-    ensures { result ≡ any_of is_waiting row.now }
+    ensures { result ≡ list_any is_waiting row.now }
 {
     row.iter().any(|standing| waiting(*standing))
 }

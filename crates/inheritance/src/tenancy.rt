@@ -27,7 +27,7 @@ impl Claim for Tenant {
     ghost laws = { record { fits_right = tenants_right; right_fits = tenants_fit; lawful = tenancy_lawful; owns = tenancy_owns } };
 
     fn are_right(sizes: Sizes, tenants: &[Tenant]) -> bool {
-        are_tenants(sizes.agents, sizes.places, tenants)
+        are_tenants(sizes, tenants)
     }
 
     fn claimant(tenants: &[Tenant], row: &[Standing], place: Place) -> Option<Agent> {

@@ -29,7 +29,7 @@ impl Claim for Node {
     ghost laws = { record { fits_right = tree_right; right_fits = tree_fits; lawful = tree_lawful; owns = tree_owns } };
 
     fn are_right(sizes: Sizes, nodes: &[Node]) -> bool {
-        is_tree(sizes.agents, sizes.places, nodes)
+        is_tree(sizes, nodes)
     }
 
     fn claimant(nodes: &[Node], row: &[Standing], place: Place) -> Option<Agent> {

@@ -9,7 +9,8 @@ returns-then-question_fits g c =
     let T = g.R.Rule.terms c.args.rule.now in
     let A = c.args.row.now in
     let p = c.args.place in
-    let e : Ok c.owner.result ≡ owner_answer T A p = asked T A p c.agents.result c.places.result c.agents.ensures c.places.ensures c.owner.result c.owner.ensures c.if-question_fits.ensures in
+    let s = c.sizes.result in
+    let e : Ok c.owner.result ≡ owner_answer T A p = asked T A p s.agents s.places c.sizes.ensures.agents c.sizes.ensures.places c.owner.result c.owner.ensures c.if-question_fits.ensures in
     record { value = e; law = question_law T A p (Ok c.owner.result) e (g.R.Rule.lawful c.args.rule.now).waits }
 
 pub returns-else-question_fits : goal.returns-else-question_fits
@@ -17,5 +18,6 @@ returns-else-question_fits g c =
     let T = g.R.Rule.terms c.args.rule.now in
     let A = c.args.row.now in
     let p = c.args.place in
-    let e : Err Question ≡ owner_answer T A p = unasked T A p c.agents.result c.places.result c.agents.ensures c.places.ensures c.if-question_fits.ensures in
+    let s = c.sizes.result in
+    let e : Err Question ≡ owner_answer T A p = unasked T A p s.agents s.places c.sizes.ensures.agents c.sizes.ensures.places c.if-question_fits.ensures in
     record { value = e; law = question_law T A p (Err Question) e (g.R.Rule.lawful c.args.rule.now).waits }
