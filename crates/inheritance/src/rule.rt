@@ -28,16 +28,16 @@ pub trait Rule {
     /// many questions about one row.
     fn owner(&self, row: &[Standing], place: Place) -> Agent
         ensures { result ≡ (terms self.now).owner row.now place };
-}
 
-/// The owner of a place in a row, where the question is proper.
-pub fn owner_of<R: Rule>(rule: &R, row: &[Standing], place: Place) -> Result<Agent, Refusal>
-    ensures value { result ≡ owner_answer (R.Rule.terms rule.now) row.now place }
-    ensures law { QuestionLaw (R.Rule.terms rule.now) row.now place result }
-{
-    if question_fits(rule.sizes(), row, place) {
-        Ok(rule.owner(row, place))
-    } else {
-        Err(Refusal::Question)
+    /// The owner of a place in a row, where the question is proper.
+    final fn owner_of(&self, row: &[Standing], place: Place) -> Result<Agent, Refusal>
+        ensures value { result ≡ owner_answer (terms self.now) row.now place }
+        ensures law { QuestionLaw (terms self.now) row.now place result }
+    {
+        if question_fits(self.sizes(), row, place) {
+            Ok(self.owner(row, place))
+        } else {
+            Err(Refusal::Question)
+        }
     }
 }
