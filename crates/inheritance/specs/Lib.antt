@@ -1,4 +1,4 @@
-pub mod Claims
+pub mod Laws
 pub mod Making
 pub mod Meanings
 pub mod Questions

@@ -2,7 +2,7 @@
 ghost use Rattle.std.specs.Prelude.{◌≡◌, ℕ, Bool, List};
 ghost use Rattle.market.specs.Rules.{Terms};
 ghost use Rattle.succession.specs.Layers.{Claims};
-ghost use Rattle.inheritance.specs.Claims.{ClaimLaws};
+ghost use Rattle.inheritance.specs.Laws.{ClaimLaws};
 
 use market::agent::Agent;
 use market::place::Place;

@@ -26,7 +26,7 @@ impl<'a, R: Rule, C: Claim> Layer<'a, R, C> {
     where
         R: Drop,
         ensures value { result_map_both (λ t. layer_of t.below t.entries.now) (λ e. e) result ≡ layer_made C.fits (R.Rule.terms below) below entries.now }
-        ensures exactly { MadeExactly (C.Right (R.Rule.terms below).agents (R.Rule.terms below).places entries.now) result }
+        ensures exactly { let T = R.Rule.terms below in MadeExactly (C.Right T.agents T.places entries.now) result }
         ensures owns { IfOk result (λ t. C.Owns (R.Rule.terms t.below) t.entries.now) }
     {
         if C::are_right(below.sizes(), entries) {

@@ -27,7 +27,7 @@ impl<O: Orders> Ordered<O> {
     pub fn new(sizes: Sizes, orders: O) -> Result<Ordered<O>, Refusal>
     where
         O: Drop,
-        ensures value { result_map_both (λ q. O.made q.sizes.agents q.sizes.places q.orders) (λ e. e) result ≡ ordered_made (O.fits sizes.agents sizes.places orders) sizes.agents sizes.places (O.made sizes.agents sizes.places orders) }
+        ensures value { let n = sizes.agents in let m = sizes.places in result_map_both (λ q. O.made q.sizes.agents q.sizes.places q.orders) (λ e. e) result ≡ ordered_made n m (O.fits n m orders) (O.made n m orders) }
         ensures exactly { MadeExactly (OrderedRight sizes.agents sizes.places (O.Right sizes.agents sizes.places orders)) result }
         ensures owns { IfOk result (λ q. OrderedOwns q.sizes.agents q.sizes.places (O.order q.orders)) }
     {

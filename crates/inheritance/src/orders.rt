@@ -2,7 +2,7 @@
 ghost use Rattle.std.specs.Prelude.{◌≡◌, ℕ, Bool, List};
 ghost use Rattle.market.specs.declared.agent.Agent.{Agent as AgentData};
 ghost use Rattle.market.specs.declared.place.Place.{Place as PlaceData};
-ghost use Rattle.inheritance.specs.Claims.{OrdersLaws};
+ghost use Rattle.inheritance.specs.Laws.{OrdersLaws};
 
 use market::agent::Agent;
 use market::place::Place;

@@ -27,8 +27,10 @@ impl<'a> Orders for &'a [Vec<Agent>] {
 
     ghost laws = {
         record {
-          fits_right = λ n m o. orders_right n m (map vec_items o.now);
-          right_fits = λ n m o. orders_fit_true n m (map vec_items o.now);
+          test = record {
+            right = λ n m o. orders_right n m (map vec_items o.now);
+            passes = λ n m o. orders_fit_true n m (map vec_items o.now);
+          };
           each = λ n m o. order_of_place n m (map vec_items o.now);
         }
     };

@@ -27,8 +27,7 @@ impl<'a> Orders for &'a [Agent] {
 
     ghost laws = {
         record {
-          fits_right = λ n m o. order_right n o.now;
-          right_fits = λ n m o. order_fits n o.now;
+          test = record { right = λ n m o. order_right n o.now; passes = λ n m o. order_fits n o.now };
           each = λ n m o right p known. right;
         }
     };

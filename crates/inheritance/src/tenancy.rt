@@ -24,7 +24,7 @@ impl Claim for Tenant {
 
     ghost Owns = { TenancyOwns };
 
-    ghost laws = { record { fits_right = tenants_right; right_fits = tenants_fit; lawful = tenancy_lawful; owns = tenancy_owns } };
+    ghost laws = { record { test = record { right = tenants_right; passes = tenants_fit }; lawful = tenancy_lawful; owns = tenancy_owns } };
 
     fn are_right(sizes: Sizes, tenants: &[Tenant]) -> bool {
         are_tenants(sizes, tenants)

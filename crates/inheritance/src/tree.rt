@@ -26,7 +26,7 @@ impl Claim for Node {
 
     ghost Owns = { TreeOwns };
 
-    ghost laws = { record { fits_right = tree_right; right_fits = tree_fits; lawful = tree_lawful; owns = tree_owns } };
+    ghost laws = { record { test = record { right = tree_right; passes = tree_fits }; lawful = tree_lawful; owns = tree_owns } };
 
     fn are_right(sizes: Sizes, nodes: &[Node]) -> bool {
         is_tree(sizes, nodes)

@@ -7,4 +7,4 @@ returns-then-are_right-clause-exactly g c =
     let T = g.R.Rule.terms c.args.below in
     let entries = c.args.entries.now in
     let fits = sized (λ n m. g.C.Claim.fits n m entries) _ _ _ _ true c.sizes.ensures.agents c.sizes.ensures.places c.if-are_right.ensures in
-    made_right (g.C.Claim.laws.fits_right T.agents T.places entries fits) _
+    made_right (g.C.Claim.laws.test.right T.agents T.places entries fits) _
