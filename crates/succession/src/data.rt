@@ -1,7 +1,8 @@
 // What rules are made of: lists in which each entry is right after those before it.
 ghost use Rattle.std.specs.Prelude.{◌≡◌, ℕ, Bool, List, []};
+ghost use Rattle.std.specs.List.{list_any};
 ghost use Rattle.succession.specs.Right.{entry_right};
-ghost use Rattle.succession.specs.Scans.{any_of, each_after};
+ghost use Rattle.succession.specs.Scans.{each_after};
 
 use market::sizes::Sizes;
 
@@ -25,13 +26,11 @@ pub trait Entry: Sized {
 /// Whether one of the entries may not stand in one list with an entry. All of them are compared, which is quicker than
 /// to stop at the first.
 fn any_like<E: Entry>(one: &E, others: &[E]) -> bool
-    ensures { result ≡ any_of (E.Entry.alike one.now) others.now }
+    ensures { result ≡ list_any (E.Entry.alike one.now) others.now }
 {
-    let mut found = false;
-    for other in others {
-        found = found | one.is_like(other);
-    }
-    found
+    others
+        .iter()
+        .fold(false, |found, other| found | one.is_like(other))
 }
 
 /// Whether an entry is right after the earlier ones.
@@ -45,8 +44,8 @@ fn is_right<E: Entry>(sizes: Sizes, earlier: &[E], next: &E) -> bool
 pub fn all_right<E: Entry>(sizes: Sizes, entries: &[E]) -> bool
     ensures { result ≡ each_after (entry_right E.Entry.alike (E.Entry.sound sizes.agents sizes.places)) [] entries.now }
 {
-    for i in 0..entries.len() {
-        if !is_right(sizes, &entries[0..i], &entries[i]) {
+    for (i, next) in entries.iter().enumerate() {
+        if !is_right(sizes, &entries[..i], next) {
             return false;
         }
     }

@@ -17,7 +17,7 @@ impl Entry for Tenant {
     ghost sound = { λ n m _ t. tenant_fits n m t };
 
     fn is_like(&self, other: &Tenant) -> bool {
-        other.place.number == self.place.number
+        other.place == self.place
     }
 
     fn is_sound(&self, sizes: Sizes, _earlier: &[Tenant]) -> bool {
@@ -33,20 +33,18 @@ pub fn are_tenants(sizes: Sizes, tenants: &[Tenant]) -> bool
 }
 
 /// Whether a tenant has the place and waits.
-fn holds_still(tenant: Tenant, row: &[Standing], place: Place) -> bool
-    ensures { result ≡ holds_still row.now place tenant }
+fn holds_still(tenant: &Tenant, row: &[Standing], place: Place) -> bool
+    ensures { result ≡ holds_still row.now place tenant.now }
 {
-    tenant.place.number == place.number && is_waiting(row, tenant.agent)
+    tenant.place == place && is_waiting(row, tenant.agent)
 }
 
 /// The tenant of a place, if it waits.
 pub fn waiting_tenant(tenants: &[Tenant], row: &[Standing], place: Place) -> Option<Agent>
     ensures { result ≡ tenant_claims tenants.now row.now place }
 {
-    for tenant in tenants {
-        if holds_still(*tenant, row, place) {
-            return Some(tenant.agent);
-        }
-    }
-    None
+    tenants
+        .iter()
+        .find(|tenant| holds_still(tenant, row, place))
+        .map(|tenant| tenant.agent)
 }
