@@ -44,10 +44,8 @@ fn is_right<E: Entry>(sizes: Sizes, earlier: &[E], next: &E) -> bool
 pub fn all_right<E: Entry>(sizes: Sizes, entries: &[E]) -> bool
     ensures { result ≡ each_after (entry_right E.Entry.alike (E.Entry.sound sizes.agents sizes.places)) [] entries.now }
 {
-    for (i, next) in entries.iter().enumerate() {
-        if !is_right(sizes, &entries[..i], next) {
-            return false;
-        }
-    }
-    true
+    entries
+        .iter()
+        .enumerate()
+        .all(|(i, next)| is_right(sizes, &entries[..i], next))
 }
