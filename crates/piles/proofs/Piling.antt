@@ -29,7 +29,7 @@ made_ok false x d e = let z : ◌≡◌ {A = ℕ} 0 1 = cc in absurd (omega arit
 
 right_orders : (n m : ℕ) (o : Orders) → OrdersFit n m o → orders_fit n m o ≡ true
 right_orders n m (queue q) r = ordered_fits n m (is_order n q) (OrderOf n q) (order_fits n q) r
-right_orders n m (priorities t) r = ordered_fits n m (are_orders n m t) (OrdersOf n m t) (orders_fit_true_of n m t) r
+right_orders n m (priorities t) r = ordered_fits n m (are_orders n m t) (OrdersOf n m t) (orders_fit_true n m t) r
 
 fit_orders : (n m : ℕ) (o : Orders) → orders_fit n m o ≡ true → OrdersFit n m o
 fit_orders n m (queue q) e = ordered_right n m (is_order n q) (OrderOf n q) (order_right n q) e
