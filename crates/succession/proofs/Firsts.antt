@@ -31,7 +31,7 @@ module _ (A : Row) (n len : ℕ) (at : ℕ → Option Agent) (some : len ≤ n) 
   abbrev pub LowestFound : Option Agent → Type 0
   LowestFound r =
       MatchOption r ((len ≡ n) × ((k : ℕ) → IfSome (at k) (λ a. waits A a ≡ false)))
-          (λ a. (i : ℕ) × (len ≡ i + 1) × (at i ≡ Some a) × (waits A a ≡ true) × ((k : ℕ) → k < i → IsSomeAnd (at k) (λ b. waits A b ≡ false)))
+      (λ a. (i : ℕ) × (len ≡ i + 1) × (at i ≡ Some a) × (waits A a ≡ true) × ((k : ℕ) → k < i → IsSomeAnd (at k) (λ b. waits A b ≡ false)))
 
   long : length (agents_from 1 n) ≡ n
   long = length-map-range_with_len numbered 1 n
@@ -42,7 +42,7 @@ module _ (A : Row) (n len : ℕ) (at : ℕ → Option Agent) (some : len ≤ n) 
   pub lowest_found : (r : Option Agent) → LowestFound r → r ≡ first_waiting A (agents_from 1 n)
   lowest_found None f =
       sym (found_nowhere (first_waiting A) (waits A) Some None refl (λ _ _. refl) (agents_from 1 n) nobody (λ k h.
-          ap (waits A) (read k (omega (arith, long))) ∙ subst (λ o. IfSome o (λ a. waits A a ≡ false)) (agents k (omega (arith, long, f.0))) (f.1 k)))
+      ap (waits A) (read k (omega (arith, long))) ∙ subst (λ o. IfSome o (λ a. waits A a ≡ false)) (agents k (omega (arith, long, f.0))) (f.1 k)))
   lowest_found (Some a) f =
       let taken = agents f.0 (omega (arith, f.1)) in
       let there = f.2 in

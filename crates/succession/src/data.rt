@@ -23,8 +23,8 @@ pub trait Entry: Sized {
         ensures { result ≡ sound sizes.agents sizes.places earlier.now self.now };
 }
 
-/// Whether one of the entries may not stand in one list with an entry. All of them are compared, which is quicker than
-/// to stop at the first.
+/// Whether one of the entries may not stand in one list with an entry. All of them are compared, several at once: `any`,
+/// which stops at the first, takes four times the instructions.
 fn any_like<E: Entry>(one: &E, others: &[E]) -> bool
     ensures { result ≡ list_any (E.Entry.alike one.now) others.now }
 {

@@ -1,6 +1,5 @@
 // Trees of heirs: when nodes are right, and who claims a place by a walk through them.
 ghost use Rattle.std.specs.Prelude.{◌≡◌, ◌<◌, ◌≤◌, length, drop, IfSome};
-ghost use Rattle.market.specs.Nodes.{is_node};
 ghost use Rattle.market.specs.Rows.{standing};
 ghost use Rattle.succession.specs.Trees.{same_node, node_fits, is_tree, taken_by, node_from, heir_claims};
 

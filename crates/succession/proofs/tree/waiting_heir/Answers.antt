@@ -1,9 +1,6 @@
-use Rattle.std.proofs.Common.{sym, ◌∙◌, arith}
+use Rattle.std.proofs.Common.{sym, ◌∙◌}
 use Rattle.succession.proofs.Walking.{walk_over, walk_stop, walk_more}
 use Rattle.succession.proofs.tree.waiting_heir.Goals as goal
-
-pub loop-index-smaller : goal.loop-index-smaller
-loop-index-smaller c = omega (arith, c.in-Some.ensures.within.0, c.in-Some.ensures.within.1)
 
 pub loop-index-preserved : goal.loop-index-preserved
 loop-index-preserved c =
