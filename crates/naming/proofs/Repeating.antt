@@ -1,17 +1,9 @@
 -- Numbers that repeat. Assumes nothing.
-use Rattle.std.proofs.Common.{◌≡◌, ℕ, suc, ◌+◌, ◌<◌, Bool, true, false, cond, ◌||◌, eqb, List, [], ◌∷◌, ◌++◌, length, get_or, take, drop, Some, None, Option, sym, refl, ap, ◌∙◌, subst, inl, inr, append_assoc, append-nil, add-one, arith}
+use Rattle.std.proofs.Common.{◌≡◌, ℕ, suc, ◌+◌, ◌<◌, true, false, cond, eqb, List, [], ◌∷◌, ◌++◌, length, get_or, take, drop, Some, None, Option, sym, refl, ap, ◌∙◌, subst, inl, inr, append_assoc, append-nil, add-one, arith}
 use Rattle.std.proofs.lemmas.List.{at_drop_more, take_more}
 use Rattle.std.proofs.lemmas.Bool.{cases_Bool, eqb-false, ne_eqb, or_parts, or_from, both_ways}
-use Rattle.naming.specs.Repeats.{any_of, has, repeat_after, repeat_in, Absent, DistinctAfter, RepeatsExactly}
-
--- ---- a search from the left
-
--- The element at hand passes the test, or what is left decides.
-pub any_here : {X : Type 0} (p : X → Bool) (xs : List X) (i : ℕ) (d : X) → i < length xs → p (get_or xs i d) ≡ true → any_of p (drop i xs) ≡ true
-any_here p xs i d h e = at_drop_more (any_of p) xs i d h ∙ ap (λ t. t || any_of p (drop (i + 1) xs)) e
-
-pub any_more : {X : Type 0} (p : X → Bool) (xs : List X) (i : ℕ) (d : X) → i < length xs → p (get_or xs i d) ≡ false → any_of p (drop i xs) ≡ any_of p (drop (i + 1) xs)
-any_more p xs i d h e = at_drop_more (any_of p) xs i d h ∙ ap (λ t. t || any_of p (drop (i + 1) xs)) e
+use Rattle.market.specs.Distinct.{Absent, DistinctAfter}
+use Rattle.naming.specs.Repeats.{has, repeat_after, repeat_in, RepeatsExactly}
 
 -- ---- one turn
 
@@ -42,7 +34,7 @@ none_after : (i : ℕ) (seen xs : List ℕ) → repeat_after i seen xs ≡ None 
 none_after i seen [] e = tt
 none_after i seen (x ∷ xs) e =
     elim (cases_Bool (has x seen)) [
-      | inl h ↦ let both : ◌≡◌ {A = Option ℕ} (Some i) None = sym (ap (λ t. cond t (Some i) (repeat_after (suc i) (seen ++ x ∷ []) xs)) h) ∙ e in let z : ◌≡◌ {A = ℕ} 0 1 = cc in absurd (omega arith)
+      | inl h ↦ let both : ◌≡◌ {A = Option ℕ} (Some i) None = sym (ap (λ t. cond t (Some i) (repeat_after (suc i) (seen ++ x ∷ []) xs)) h) ∙ e in absurd cc
       | inr h ↦ (absent x seen h, none_after (suc i) (seen ++ x ∷ []) xs (sym (ap (λ t. cond t (Some i) (repeat_after (suc i) (seen ++ x ∷ []) xs)) h) ∙ e))
     ]
 
@@ -62,7 +54,7 @@ record Found (seen xs : List ℕ) (k : ℕ) : Type 0 where
   repeats : Absent number (seen ++ before) → ⊥
 
 some_after : (i k : ℕ) (seen xs : List ℕ) → repeat_after i seen xs ≡ Some k → (j : ℕ) × (k ≡ i + j) × Found seen xs j
-some_after i k seen [] e = let z : ◌≡◌ {A = ℕ} 0 1 = cc in absurd (omega arith)
+some_after i k seen [] e = absurd cc
 some_after i k seen (x ∷ xs) e =
     elim (cases_Bool (has x seen)) [
       | inl h ↦
