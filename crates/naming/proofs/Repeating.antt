@@ -1,6 +1,6 @@
 -- Numbers that repeat. Assumes nothing.
-use Rattle.std.proofs.Common.{◌≡◌, ℕ, suc, ◌+◌, ◌<◌, true, false, cond, eqb, List, [], ◌∷◌, ◌++◌, length, get_or, take, drop, Some, None, Option, sym, refl, ap, ◌∙◌, subst, inl, inr, append_assoc, append-nil, add-one, arith}
-use Rattle.std.proofs.lemmas.List.{at_drop_more, take_more}
+use Rattle.std.proofs.Common.{◌≡◌, ℕ, suc, ◌+◌, ◌<◌, ◌≤◌, false, cond, eqb, List, [], ◌∷◌, ◌++◌, length, get_or, take, drop, Some, None, Option, sym, refl, ap, ◌∙◌, subst, inl, inr, append_assoc, append-nil, add-one, arith}
+use Rattle.std.proofs.lemmas.List.{at_drop_more, at_drop_all, take_more}
 use Rattle.std.proofs.lemmas.Bool.{cases_Bool, eqb-false, ne_eqb, or_parts, or_from, both_ways}
 use Rattle.market.specs.Distinct.{Absent, DistinctAfter}
 use Rattle.naming.specs.Repeats.{has, repeat_after, repeat_in, RepeatsExactly}
@@ -14,11 +14,9 @@ turn xs i h =
     ∙ ap (λ j. cond (has (get_or xs i 0) (take i xs)) (Some i) (repeat_after j (take i xs ++ get_or xs i 0 ∷ []) (drop (i + 1) xs))) (sym (add-one i))
     ∙ ap (λ seen. cond (has (get_or xs i 0) (take i xs)) (Some i) (repeat_after (i + 1) seen (drop (i + 1) xs))) (sym (take_more xs i 0 h))
 
-pub turn_here : (xs : List ℕ) (i : ℕ) → i < length xs → has (get_or xs i 0) (take i xs) ≡ true → repeat_after i (take i xs) (drop i xs) ≡ Some i
-turn_here xs i h e = turn xs i h ∙ ap (λ t. cond t (Some i) (repeat_after (i + 1) (take (i + 1) xs) (drop (i + 1) xs))) e
-
-pub turn_on : (xs : List ℕ) (i : ℕ) → i < length xs → has (get_or xs i 0) (take i xs) ≡ false → repeat_after i (take i xs) (drop i xs) ≡ repeat_after (i + 1) (take (i + 1) xs) (drop (i + 1) xs)
-turn_on xs i h e = turn xs i h ∙ ap (λ t. cond t (Some i) (repeat_after (i + 1) (take (i + 1) xs) (drop (i + 1) xs))) e
+-- After the last number.
+pub no_turn : (xs : List ℕ) (i : ℕ) → length xs ≤ i → repeat_after i (take i xs) (drop i xs) ≡ None
+no_turn xs i h = at_drop_all (repeat_after i (take i xs)) xs i h
 
 -- ---- what it means
 

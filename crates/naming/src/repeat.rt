@@ -12,6 +12,7 @@ fn is_among(number: u16, numbers: &[u16]) -> bool
 }
 
 /// The index of the first number that repeats an earlier one.
+#[tactic(auto, using(crate::proofs::Repeating::turn, crate::proofs::Repeating::no_turn, crate::proofs::Repeating::repeats_exactly))]
 pub(crate) fn first_repeat(numbers: &[u16]) -> Option<usize>
     ensures value { result ≡ repeat_in numbers.now }
     ensures within { IfSome result (λ i. i < length numbers.now) }
