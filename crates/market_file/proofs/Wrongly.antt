@@ -9,7 +9,7 @@ use Rattle.market_file.specs.Keeping.{RightCount, LeftmostWrong}
 -- One test of a count: it is right and the tests after it decide, or it is the leftmost wrong one.
 passed_test : (b : Bool) (x : Option ℕ) (j : ℕ) → cond b x (Some j) ≡ None → (b ≡ true) × (x ≡ None)
 passed_test true x j e = (refl, e)
-passed_test false x j e = let w : ◌≡◌ {A = ℕ} 0 1 = cc in absurd (omega arith)
+passed_test false x j e = absurd cc
 
 failed_test : (b : Bool) (x : Option ℕ) (j i : ℕ) → cond b x (Some j) ≡ Some i → ((b ≡ false) × (j ≡ i)) ⊎ ((b ≡ true) × (x ≡ Some i))
 failed_test true x j i e = inr (refl, e)
@@ -87,7 +87,7 @@ leftmost z c i e =
                                   let b6 = one_more z c 5 b5 (leb-true _ _ p5.0) in
                                   elim (failed_test (leb c.rankings z.agents) None 6 i p5.1) [
                                     | inl w ↦ wrong_here z c 6 i b6 (λ h. omega (arith, leb-false c.rankings z.agents w.0)) w.1
-                                    | inr p6 ↦ let both : ◌≡◌ {A = Option ℕ} None (Some i) = p6.1 in let w : ◌≡◌ {A = ℕ} 0 1 = cc in absurd (omega arith)
+                                    | inr p6 ↦ let both : ◌≡◌ {A = Option ℕ} None (Some i) = p6.1 in absurd cc
                                   ]
                             ]
                       ]
