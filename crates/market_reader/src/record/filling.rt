@@ -62,10 +62,7 @@ impl Market {
         let nodes = Vec::with_capacity(heap, MOST_LINES)?;
         let tenants = Vec::with_capacity(heap, MOST_LINES)?;
         let rankings = rooms(heap, MOST_AGENTS, MOST_WORDS)?;
-        let sizes = Sizes {
-            agents: 0,
-            places: 0,
-        };
+        let sizes = Sizes::default();
         let served = Served::ByQueue;
         Ok(Market {
             sizes,
