@@ -1,9 +1,11 @@
 -- The owner question: what its test means. Assumes nothing.
 use Rattle.std.proofs.Common.{◌≡◌, ℕ, zero, suc, ◌≤◌, Bool, true, false, cond, ◌&&◌, ◌||◌, eqb, [], ◌∷◌, length, get_or, Ok, Err, Result, sym, refl, ap, ◌∙◌, subst, inl, inr, arith}
-use Rattle.std.proofs.ByRecursion.{All-get_or, All-from_get_or}
+use Rattle.std.proofs.lemmas.List.Elements.{All-get_or, All-from_get_or}
+use Rattle.std.proofs.lemmas.List.Folds.{list_any_at}
+use Rattle.std.proofs.lemmas.List.Sums.{AllPass-from_list_all, list_all-from_AllPass}
 use Rattle.std.proofs.lemmas.List.{get_or_past}
 use Rattle.std.proofs.lemmas.Bool.{cases_Bool, cases_lt, and_parts, and_from, eqb-true, eq-eqb, both_ways}
-use Rattle.std.specs.List.{AllByRecursion}
+use Rattle.std.specs.List.{AllPass, list_all, list_any}
 use Rattle.market.specs.declared.agent.Agent.{Agent}
 use Rattle.market.specs.declared.place.Place.{Place}
 use Rattle.market.specs.declared.refusal.Refusal.{Refusal}
@@ -14,19 +16,17 @@ use Rattle.market.specs.Rows.{Row, standing, Waits, is_waiting, PlaceIn, Proper}
 use Rattle.market.specs.Rules.{Terms, OwnerWaits}
 use Rattle.inheritance.specs.Questions.{standing_fits, question_fits, owner_answer, QuestionRight, QuestionLaw}
 use Rattle.succession.specs.Ranges.{place_fits}
-use Rattle.succession.specs.Scans.{every_of, any_of}
 use Rattle.succession.proofs.Ranging.{place_right, place_fits_true}
-use Rattle.succession.proofs.Scanning.{every_all, all_every, none_all}
 use Rattle.succession.proofs.Standings.{waiting_true, waits_in}
 
 unplaced≢placed : (p : Place) → Unplaced ≡ Placed p → ⊥
 unplaced≢placed p e = let z : ◌≡◌ {A = ℕ} 0 1 = cc in omega arith
 
-row_right : (n m : ℕ) (A : Row) → length A ≡ n → every_of (standing_fits m) A ≡ true → Proper n m A
+row_right : (n m : ℕ) (A : Row) → length A ≡ n → list_all (standing_fits m) A ≡ true → Proper n m A
 row_right n m A size e = record { size = size; placed = λ a p. go a.number p }
   where
-    fits : AllByRecursion (λ s. standing_fits m s ≡ true) A
-    fits = every_all (standing_fits m) (λ s. standing_fits m s ≡ true) (λ s h. h) A e
+    fits : AllPass (standing_fits m) A
+    fits = AllPass-from_list_all (standing_fits m) A e
 
     go : (j : ℕ) (p : Place) → standing A (record { number = j }) ≡ Placed p → PlaceIn m p
     go zero p s = absurd (unplaced≢placed p s)
@@ -36,39 +36,35 @@ row_right n m A size e = record { size = size; placed = λ a p. go a.number p }
           | inr h ↦ absurd (unplaced≢placed p (sym (get_or_past A i Unplaced h) ∙ s))
         ]
 
-row_fits : (n m : ℕ) (A : Row) → Proper n m A → every_of (standing_fits m) A ≡ true
-row_fits n m A row = all_every (standing_fits m) (λ s. standing_fits m s ≡ true) (λ s h. h) A (All-from_get_or _ A Unplaced (λ i h. go i (get_or A i Unplaced) refl))
+row_fits : (n m : ℕ) (A : Row) → Proper n m A → list_all (standing_fits m) A ≡ true
+row_fits n m A row = list_all-from_AllPass (standing_fits m) A (All-from_get_or (λ s. standing_fits m s ≡ true) A Unplaced (λ i h. go i (get_or A i Unplaced) refl))
   where
     go : (i : ℕ) (s : Standing) → get_or A i Unplaced ≡ s → standing_fits m s ≡ true
     go i Waiting e = refl
     go i (Placed p) e = place_fits_true m p (row.placed (record { number = suc i }) p e)
     go i Unplaced e = refl
 
-somebody : (A : Row) → any_of is_waiting A ≡ true → (i : ℕ) × (get_or A i Unplaced ≡ Waiting)
+somebody : (A : Row) → list_any is_waiting A ≡ true → (i : ℕ) × (get_or A i Unplaced ≡ Waiting)
 somebody [] e = let z : ◌≡◌ {A = ℕ} 0 1 = cc in absurd (omega arith)
 somebody (s ∷ A) e =
     elim (cases_Bool (is_waiting s)) [
       | inl h ↦ (0, waiting_true s h)
-      | inr h ↦ let rest = somebody A (sym (ap (λ t. t || any_of is_waiting A) h) ∙ e) in (suc rest.0, rest.1)
+      | inr h ↦ let rest = somebody A (sym (ap (λ t. t || list_any is_waiting A) h) ∙ e) in (suc rest.0, rest.1)
     ]
 
-anybody : (A : Row) (a : Agent) → Waits A a → any_of is_waiting A ≡ true
-anybody A a w =
-    elim (cases_Bool (any_of is_waiting A)) [
-      | inl e ↦ e
-      | inr e ↦ absurd (go a.number w (waits_in A a w).0 (waits_in A a w).1 (none_all is_waiting (λ s. is_waiting s ≡ false) (λ s h. h) A e))
-    ]
+anybody : (A : Row) (a : Agent) → Waits A a → list_any is_waiting A ≡ true
+anybody A a w = go a.number w (waits_in A a w).0 (waits_in A a w).1
   where
-    go : (j : ℕ) → Waits A (record { number = j }) → 1 ≤ j → j ≤ length A → AllByRecursion (λ s. is_waiting s ≡ false) A → ⊥
-    go zero v low high none = omega arith
-    go (suc i) v low high none = both_ways (is_waiting (get_or A i Unplaced)) (All-get_or (λ s. is_waiting s ≡ false) A i Unplaced (omega arith) none) (ap is_waiting v)
+    go : (j : ℕ) → Waits A (record { number = j }) → 1 ≤ j → j ≤ length A → list_any is_waiting A ≡ true
+    go zero v low high = absurd (omega arith)
+    go (suc i) v low high = list_any_at is_waiting A i Unplaced (omega arith) (ap is_waiting v)
 
 module _ (n m : ℕ) (A : Row) (p : Place) where
   question_right : question_fits n m A p ≡ true → QuestionRight n m A p
   question_right e =
-      let one = and_parts (eqb (length A) n && every_of (standing_fits m) A && any_of is_waiting A) (place_fits m p) e in
-      let two = and_parts (eqb (length A) n && every_of (standing_fits m) A) (any_of is_waiting A) one.0 in
-      let three = and_parts (eqb (length A) n) (every_of (standing_fits m) A) two.0 in
+      let one = and_parts (eqb (length A) n && list_all (standing_fits m) A && list_any is_waiting A) (place_fits m p) e in
+      let two = and_parts (eqb (length A) n && list_all (standing_fits m) A) (list_any is_waiting A) one.0 in
+      let three = and_parts (eqb (length A) n) (list_all (standing_fits m) A) two.0 in
       let who = somebody A two.1 in
       record {
         row = row_right n m A (eqb-true (length A) n three.0) three.1;

@@ -1,3 +1,4 @@
+pub mod Laws
 pub mod Making
 pub mod Meanings
 pub mod Questions

@@ -1,5 +1,6 @@
 -- The owner question: when it is proper, and what is answered.
 use Rattle.std.specs.Prelude.{◌≡◌, ℕ, Bool, true, cond, ◌&&◌, length, Ok, Err, Result, ◌==◌}
+use Rattle.std.specs.List.{list_all, list_any}
 use Rattle.market.specs.declared.agent.Agent.{Agent}
 use Rattle.market.specs.declared.place.Place.{Place}
 use Rattle.market.specs.declared.refusal.Refusal.{Refusal}
@@ -9,7 +10,6 @@ use Rattle.market.specs.declared.standing.Standing.TheVariants.{Waiting, Placed,
 use Rattle.market.specs.Rows.{Row, Waits, PlaceIn, Proper, is_waiting}
 use Rattle.market.specs.Rules.{Terms}
 use Rattle.succession.specs.Ranges.{place_fits}
-use Rattle.succession.specs.Scans.{every_of, any_of}
 
 -- A standing has no place outside 1 to m.
 abbrev pub standing_fits : ℕ → Standing → Bool
@@ -19,7 +19,7 @@ standing_fits m Unplaced = true
 
 -- The owner question is proper, as a test.
 abbrev pub question_fits : ℕ → ℕ → Row → Place → Bool
-question_fits n m A p = length A == n && every_of (standing_fits m) A && any_of is_waiting A && place_fits m p
+question_fits n m A p = length A == n && list_all (standing_fits m) A && list_any is_waiting A && place_fits m p
 
 -- What a rule answers to the owner question: the owner where the question is proper, and otherwise a refusal.
 abbrev pub owner_answer : Terms → Row → Place → Result Agent Refusal

@@ -6,6 +6,7 @@ use crate::queue::Queue;
 use crate::rule::Rule;
 use market::agent::Agent;
 use market::place::Place;
+use market::sizes::Sizes;
 use market::standing::Standing;
 
 /// A queue or priorities.
@@ -20,17 +21,10 @@ impl<'a> Rule for Base<'a> {
 
     ghost lawful = { base_lawful };
 
-    fn agents(&self) -> u16 {
+    fn sizes(&self) -> Sizes {
         match self {
-            Base::ByQueue(queue) => queue.agents(),
-            Base::ByPriorities(priorities) => priorities.agents(),
-        }
-    }
-
-    fn places(&self) -> u16 {
-        match self {
-            Base::ByQueue(queue) => queue.places(),
-            Base::ByPriorities(priorities) => priorities.places(),
+            Base::ByQueue(queue) => queue.sizes(),
+            Base::ByPriorities(priorities) => priorities.sizes(),
         }
     }
 

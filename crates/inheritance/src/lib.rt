@@ -2,6 +2,10 @@
 #![tactic(auto)]
 
 pub mod base;
+pub mod claim;
+pub mod layer;
+pub mod ordered;
+pub mod orders;
 pub mod priorities;
 pub mod question;
 pub mod queue;

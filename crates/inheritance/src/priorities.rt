@@ -1,73 +1,45 @@
 // Priorities: an order of all agents for each place.
-ghost use Rattle.std.specs.Prelude.{◌≡◌, map, IfOk, vec_items};
-ghost use Rattle.std.specs.Result.{result_map_both};
-ghost use Rattle.succession.proofs.Ordering.{ordered_lawful};
-ghost use Rattle.succession.specs.Priorities.{order_for};
-ghost use Rattle.inheritance.specs.Making.{priorities_fit, priorities_made, MadeExactly, PrioritiesRight};
-ghost use Rattle.inheritance.specs.Meanings.{priorities_terms, PrioritiesOwn};
-ghost use Rattle.inheritance.specs.Views.{priorities_data};
+ghost use Rattle.std.specs.Prelude.{map, vec_items};
+ghost use Rattle.succession.proofs.Ranking.{orders_right, orders_fit_true, order_of_place};
+ghost use Rattle.succession.specs.Priorities.{are_orders, order_for, OrdersOf};
+ghost use Rattle.inheritance.specs.Meanings.{PrioritiesData};
 
-use crate::rule::Rule;
-use crate::sizes::sizes_fit;
+use crate::ordered::Ordered;
+use crate::orders::Orders;
 use market::agent::Agent;
 use market::place::Place;
-use market::refusal::Refusal;
-use market::standing::Standing;
-use succession::order::owner_by;
+use market::sizes::Sizes;
 use succession::priority::{are_orders, order_for};
 
-/// Priorities: the owner of a place is the first agent in the place's order that waits.
-#[derive(Clone, Copy)]
-pub struct Priorities<'a> {
-    agents: u16,
-    places: u16,
-    orders: &'a [Vec<Agent>],
-}
+/// Priorities: the owner of a place is the first agent in the place's order that waits. The order of place 1 stands first.
+pub type Priorities<'a> = Ordered<&'a [Vec<Agent>]>;
 
-/// Whether sizes and orders are right for priorities.
-fn priorities_fit(agents: u16, places: u16, orders: &[Vec<Agent>]) -> bool
-    ensures { result ≡ priorities_fit agents places (map vec_items orders.now) }
-{
-    sizes_fit(agents, places) && are_orders(agents, places, orders)
-}
+impl<'a> Orders for &'a [Vec<Agent>] {
+    ghost Made = { PrioritiesData };
 
-impl<'a> Priorities<'a> {
-    /// The priorities of orders of all agents, one for each place, that of place 1 first.
-    pub fn new(
-        agents: u16,
-        places: u16,
-        orders: &'a [Vec<Agent>],
-    ) -> Result<Priorities<'a>, Refusal>
-        ensures value { result_map_both priorities_data (λ e. e) result ≡ priorities_made agents places (map vec_items orders.now) }
-        ensures exactly { MadeExactly (PrioritiesRight agents places (map vec_items orders.now)) result }
-        ensures owns { IfOk result (λ q. PrioritiesOwn (priorities_data q)) }
-    {
-        if priorities_fit(agents, places, orders) {
-            Ok(Priorities {
-                agents,
-                places,
-                orders,
-            })
-        } else {
-            Err(Refusal::Rule)
+    ghost made = { λ n m o. record { agents = n; places = m; orders = map vec_items o.now } };
+
+    ghost fits = { λ n m o. are_orders n m (map vec_items o.now) };
+
+    ghost Right = { λ n m o. OrdersOf n m (map vec_items o.now) };
+
+    ghost order = { λ o. order_for (map vec_items o.now) };
+
+    ghost laws = {
+        record {
+          test = record {
+            right = λ n m o. orders_right n m (map vec_items o.now);
+            passes = λ n m o. orders_fit_true n m (map vec_items o.now);
+          };
+          each = λ n m o. order_of_place n m (map vec_items o.now);
         }
-    }
-}
+    };
 
-impl<'a> Rule for Priorities<'a> {
-    ghost terms = { λ q. priorities_terms (priorities_data q) };
-
-    ghost lawful = { λ q. ordered_lawful q.agents q.places (order_for (map vec_items q.orders.now)) };
-
-    fn agents(&self) -> u16 {
-        self.agents
+    fn are_right(&self, sizes: Sizes) -> bool {
+        are_orders(sizes, self)
     }
 
-    fn places(&self) -> u16 {
-        self.places
-    }
-
-    fn owner(&self, row: &[Standing], place: Place) -> Agent {
-        owner_by(self.agents, order_for(self.orders, place), row)
+    fn order_for(&self, place: Place) -> &[Agent] {
+        order_for(self, place)
     }
 }

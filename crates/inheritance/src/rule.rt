@@ -7,6 +7,7 @@ use crate::question::question_fits;
 use market::agent::Agent;
 use market::place::Place;
 use market::refusal::Refusal;
+use market::sizes::Sizes;
 use market::standing::Standing;
 
 /// An inheritance rule, which never changes once it is made.
@@ -18,28 +19,25 @@ pub trait Rule {
     /// waits.
     ghost lawful: { (rule : Self) → Lawful (terms rule) };
 
-    /// How many agents the rule is for.
-    fn agents(&self) -> u16
-        ensures { result ≡ (terms self.now).agents };
-
-    /// How many places the rule is for.
-    fn places(&self) -> u16
-        ensures { result ≡ (terms self.now).places };
+    /// How many agents and places the rule is for.
+    fn sizes(&self) -> Sizes
+        ensures agents { result.agents ≡ (terms self.now).agents }
+        ensures places { result.places ≡ (terms self.now).places };
 
     /// The owner of a place in a row, unchecked: for a caller that knows that the question is proper, as one that asks
     /// many questions about one row.
     fn owner(&self, row: &[Standing], place: Place) -> Agent
         ensures { result ≡ (terms self.now).owner row.now place };
-}
 
-/// The owner of a place in a row, where the question is proper.
-pub fn owner_of<R: Rule>(rule: &R, row: &[Standing], place: Place) -> Result<Agent, Refusal>
-    ensures value { result ≡ owner_answer (R.Rule.terms rule.now) row.now place }
-    ensures law { QuestionLaw (R.Rule.terms rule.now) row.now place result }
-{
-    if question_fits(rule.agents(), rule.places(), row, place) {
-        Ok(rule.owner(row, place))
-    } else {
-        Err(Refusal::Question)
+    /// The owner of a place in a row, where the question is proper.
+    final fn owner_of(&self, row: &[Standing], place: Place) -> Result<Agent, Refusal>
+        ensures value { result ≡ owner_answer (terms self.now) row.now place }
+        ensures law { QuestionLaw (terms self.now) row.now place result }
+    {
+        if question_fits(self.sizes(), row, place) {
+            Ok(self.owner(row, place))
+        } else {
+            Err(Refusal::Question)
+        }
     }
 }

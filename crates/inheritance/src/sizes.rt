@@ -2,9 +2,11 @@
 ghost use Rattle.std.specs.Prelude.{◌≡◌};
 ghost use Rattle.inheritance.specs.Making.{sizes_fit};
 
-/// Whether the numbers of agents and places are those that rules are for.
-pub fn sizes_fit(agents: u16, places: u16) -> bool
-    ensures { result ≡ sizes_fit agents places }
+use market::sizes::Sizes;
+
+/// Whether there are as many agents and places as rules are for.
+pub fn sizes_fit(sizes: Sizes) -> bool
+    ensures { result ≡ sizes_fit sizes.agents sizes.places }
 {
-    1 <= agents && agents <= 200 && (1 <= places && places <= 40)
+    (1..=200).contains(&sizes.agents) && (1..=40).contains(&sizes.places)
 }

@@ -6,20 +6,22 @@ use Rattle.market.specs.declared.node.Node.{Node}
 use Rattle.market.specs.declared.refusal.Refusal.{Refusal}
 use Rattle.market.specs.declared.refusal.Refusal.TheVariants.{Rule}
 use Rattle.market.specs.declared.tenant.Tenant.{Tenant}
+use Rattle.market.specs.Data.{OrderOf}
 use Rattle.market.specs.Rules.{Terms}
+use Rattle.succession.specs.Orders.{is_order}
+use Rattle.succession.specs.Priorities.{are_orders, OrdersOf}
 use Rattle.succession.specs.Tenancies.{are_tenants, tenancy_terms}
 use Rattle.succession.specs.Trees.{is_tree, tree_terms}
 use Rattle.succession.proofs.Holding.{tenants_right, tenants_fit, tenancy_owns}
-use Rattle.succession.proofs.Ordering.{ordered_owns}
-use Rattle.succession.proofs.Ranking.{order_of_place}
+use Rattle.succession.proofs.Ordering.{order_right, order_fits, ordered_owns}
+use Rattle.succession.proofs.Ranking.{orders_right, orders_fit_true as orders_fit_true_of, order_of_place}
 use Rattle.succession.proofs.Treeing.{tree_right, tree_fits, tree_owns}
 use Rattle.inheritance.specs.declared.base.Base.{Base}
-use Rattle.inheritance.specs.declared.tenancy.Tenancy.{Tenancy}
-use Rattle.inheritance.specs.declared.tree.Tree.{Tree}
+use Rattle.inheritance.specs.declared.layer.Layer.{Layer as TheLayer}
 use Rattle.inheritance.specs.Making.{SizesRight, made_if, queue_fits, priorities_fit, tree_made, tenancy_made}
 use Rattle.inheritance.specs.Meanings.{Layer, layer_of}
 use Rattle.inheritance.specs.Views.{base_terms}
-use Rattle.inheritance.proofs.Makings.{queue_right, queue_wrong, priorities_right, priorities_wrong}
+use Rattle.inheritance.proofs.Makings.{ordered_right, ordered_fits}
 use Rattle.market_reader.specs.Held.{Held, Orders, queue, priorities}
 use Rattle.market_reader.specs.Keeping.{OrdersRight, SoundMarket}
 use Rattle.piles.specs.Piles.{orders_fit, OrdersFit, orders_terms, OrdersOwn, order_terms, pile_terms, pile_fits, pile_made, terms_of, RulesRight, PileOwns, PileLaw}
@@ -38,17 +40,13 @@ made_err false d x e = (refl, cc)
 
 -- ---- tests and what they mean
 
--- A test that cannot fail is passed.
-unless_false : (b : Bool) → (b ≡ false → ⊥) → b ≡ true
-unless_false b h = elim (cases_Bool b) [ inl e ↦ e | inr e ↦ absurd (h e) ]
-
 orders_fit_true : (n m : ℕ) (o : Orders) → OrdersFit n m o → orders_fit n m o ≡ true
-orders_fit_true n m (queue q) r = unless_false (queue_fits n m q) (λ fails. queue_wrong n m q (sym fails) r)
-orders_fit_true n m (priorities t) r = unless_false (priorities_fit n m t) (λ fails. priorities_wrong n m t (sym fails) r)
+orders_fit_true n m (queue q) r = ordered_fits n m (is_order n q) (OrderOf n q) (order_fits n q) r
+orders_fit_true n m (priorities t) r = ordered_fits n m (are_orders n m t) (OrdersOf n m t) (orders_fit_true_of n m t) r
 
 fit_orders : (n m : ℕ) (o : Orders) → orders_fit n m o ≡ true → OrdersFit n m o
-fit_orders n m (queue q) e = queue_right n m q (sym e)
-fit_orders n m (priorities t) e = priorities_right n m t (sym e)
+fit_orders n m (queue q) e = ordered_right n m (is_order n q) (OrderOf n q) (order_right n q) e
+fit_orders n m (priorities t) e = ordered_right n m (are_orders n m t) (OrdersOf n m t) (orders_right n m t) e
 
 right_fits : (h : Held) → RulesRight h → pile_fits h ≡ true
 right_fits h r =
@@ -140,26 +138,26 @@ module _ (h : Held) (base : Base) (nodes : List Node) (made : Ok (base_terms bas
       let q = made_err (is_tree (base_terms base).agents (base_terms base).places nodes) (layer_of base nodes) x e in
       ap Err q.1 ∙ sym (by_tests h true false (are_tenants h.agents h.places h.tenants) below.0 (sym (tree_test h (base_terms base) nodes below.1 same) ∙ q.0) refl)
 
-  module _ (tree : Tree Base) (grown : Ok (layer_of tree.below tree.nodes.now) ≡ tree_made (base_terms base) base nodes) where
-    abbrev middle : (is_tree (base_terms base).agents (base_terms base).places nodes ≡ true) × (layer_of tree.below tree.nodes.now ≡ layer_of base nodes)
-    middle = made_ok (is_tree (base_terms base).agents (base_terms base).places nodes) (layer_of tree.below tree.nodes.now) (layer_of base nodes) grown
+  module _ (tree : TheLayer Base Node) (grown : Ok (layer_of tree.below tree.entries.now) ≡ tree_made (base_terms base) base nodes) where
+    abbrev middle : (is_tree (base_terms base).agents (base_terms base).places nodes ≡ true) × (layer_of tree.below tree.entries.now ≡ layer_of base nodes)
+    middle = made_ok (is_tree (base_terms base).agents (base_terms base).places nodes) (layer_of tree.below tree.entries.now) (layer_of base nodes) grown
 
     -- What the tree means.
-    tree_means : tree_terms (base_terms tree.below) tree.nodes.now ≡ tree_terms (order_terms h) h.nodes
+    tree_means : tree_terms (base_terms tree.below) tree.entries.now ≡ tree_terms (order_terms h) h.nodes
     tree_means =
         ap (λ (l : Layer Base Node). tree_terms (base_terms l.below) l.entries) middle.1
         ∙ ap (λ T. tree_terms T nodes) below.1
         ∙ ap (tree_terms (order_terms h)) same
 
-    pub pile_made_is : (r : Result (Tenancy (Tree Base)) Refusal) (tenants : List Tenant) → tenants ≡ h.tenants → result_map_both (λ t. layer_of t.below t.tenants.now) (λ e. e) r ≡ tenancy_made (tree_terms (base_terms tree.below) tree.nodes.now) tree tenants → result_map_both terms_of (λ e. e) r ≡ pile_made h
+    pub pile_made_is : (r : Result (TheLayer (TheLayer Base Node) Tenant) Refusal) (tenants : List Tenant) → tenants ≡ h.tenants → result_map_both (λ t. layer_of t.below t.entries.now) (λ e. e) r ≡ tenancy_made (tree_terms (base_terms tree.below) tree.entries.now) tree tenants → result_map_both terms_of (λ e. e) r ≡ pile_made h
     pile_made_is (Err x) tenants held e =
-        let T = tree_terms (base_terms tree.below) tree.nodes.now in
+        let T = tree_terms (base_terms tree.below) tree.entries.now in
         let q = made_err (are_tenants T.agents T.places tenants) (layer_of tree tenants) x e in
         ap Err q.1 ∙ sym (by_tests h true true false below.0 (sym (tree_test h (base_terms base) nodes below.1 same) ∙ middle.0) (sym (tenants_test h T tenants tree_means held) ∙ q.0))
     pile_made_is (Ok p) tenants held e =
-        let T = tree_terms (base_terms tree.below) tree.nodes.now in
-        let q = made_ok (are_tenants T.agents T.places tenants) (layer_of p.below p.tenants.now) (layer_of tree tenants) e in
-        ap (λ (l : Layer (Tree Base) Tenant). Ok (tenancy_terms (tree_terms (base_terms l.below.below) l.below.nodes.now) l.entries)) q.1
+        let T = tree_terms (base_terms tree.below) tree.entries.now in
+        let q = made_ok (are_tenants T.agents T.places tenants) (layer_of p.below p.entries.now) (layer_of tree tenants) e in
+        ap (λ (l : Layer (TheLayer Base Node) Tenant). Ok (tenancy_terms (tree_terms (base_terms l.below.below) l.below.entries.now) l.entries)) q.1
         ∙ ap (λ U. Ok (tenancy_terms U tenants)) tree_means
         ∙ ap (λ l. Ok (tenancy_terms (tree_terms (order_terms h) h.nodes) l)) held
         ∙ sym (by_tests h true true true below.0 (sym (tree_test h (base_terms base) nodes below.1 same) ∙ middle.0) (sym (tenants_test h T tenants tree_means held) ∙ q.0))

@@ -1,14 +1,15 @@
 -- The rules of a market: what the pile of them means.
 use Rattle.std.specs.Prelude.{◌≡◌, ℕ, Bool, ◌&&◌, Ok, Err, Result}
+use Rattle.market.specs.declared.node.Node.{Node}
 use Rattle.market.specs.declared.refusal.Refusal.{Refusal}
 use Rattle.market.specs.declared.refusal.Refusal.TheVariants.{Rule}
+use Rattle.market.specs.declared.tenant.Tenant.{Tenant}
 use Rattle.market.specs.Data.{TreeOf, TenantsOf}
 use Rattle.market.specs.Rules.{Terms}
 use Rattle.succession.specs.Tenancies.{are_tenants, tenancy_terms, TenancyOwns}
 use Rattle.succession.specs.Trees.{is_tree, tree_terms, TreeOwns}
 use Rattle.inheritance.specs.declared.base.Base.{Base}
-use Rattle.inheritance.specs.declared.tenancy.Tenancy.{Tenancy}
-use Rattle.inheritance.specs.declared.tree.Tree.{Tree}
+use Rattle.inheritance.specs.declared.layer.Layer.{Layer}
 use Rattle.inheritance.specs.Making.{made_if, queue_fits, QueueRight, priorities_fit, PrioritiesRight}
 use Rattle.inheritance.specs.Meanings.{queue_terms, QueueOwns, priorities_terms, PrioritiesOwn}
 use Rattle.inheritance.specs.Views.{base_terms}
@@ -52,8 +53,8 @@ abbrev pub pile_made : Held → Result Terms Refusal
 pile_made h = made_if (pile_fits h) (pile_terms h)
 
 -- What the pile of the code means.
-abbrev pub terms_of : Tenancy (Tree Base) → Terms
-terms_of p = tenancy_terms (tree_terms (base_terms p.below.below) p.below.nodes.now) p.tenants.now
+abbrev pub terms_of : Layer (Layer Base Node) Tenant → Terms
+terms_of p = tenancy_terms (tree_terms (base_terms p.below.below) p.below.entries.now) p.entries.now
 
 -- The rules of a market can be made: its orders, nodes and tenants are right for its agents and places.
 pub record RulesRight (h : Held) : Type 0 where

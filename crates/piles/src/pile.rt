@@ -9,10 +9,10 @@ ghost use Rattle.piles.specs.Piles.{orders_fit, order_terms, pile_made, terms_of
 use inheritance::base::Base;
 use inheritance::priorities::Priorities;
 use inheritance::queue::Queue;
-use inheritance::rule::Rule;
 use inheritance::tenancy::Tenancy;
 use inheritance::tree::Tree;
 use market::refusal::Refusal;
+use market::sizes::Sizes;
 use market_reader::record::{Market, OrdersRef};
 
 /// The rules of a market, one on the other.
@@ -22,13 +22,13 @@ pub type Pile<'a> = Tenancy<'a, Tree<'a, Base<'a>>>;
 fn base_of(market: &Market) -> Result<Base<'_>, Refusal>
     ensures { result_map_both base_terms (λ e. e) result ≡ made_if (orders_fit (held market.now).agents (held market.now).places (held market.now).orders) (order_terms (held market.now)) }
 {
-    let agents = market.agents();
-    let places = market.places();
+    let sizes = Sizes {
+        agents: market.agents(),
+        places: market.places(),
+    };
     match market.orders() {
-        OrdersRef::Queue(order) => Ok(Base::ByQueue(Queue::new(agents, places, order)?)),
-        OrdersRef::Priorities(orders) => Ok(Base::ByPriorities(Priorities::new(
-            agents, places, orders,
-        )?)),
+        OrdersRef::Queue(order) => Queue::new(sizes, order).map(Base::ByQueue),
+        OrdersRef::Priorities(orders) => Priorities::new(sizes, orders).map(Base::ByPriorities),
     }
 }
 

@@ -1,7 +1,7 @@
 -- The first agent of a list that waits: what it means, and the laws of an owner. Assumes nothing.
-use Rattle.std.proofs.Common.{◌≡◌, ℕ, zero, suc, ◌+◌, ◌-◌, ◌<◌, ◌≤◌, true, false, cond, List, [], ◌∷◌, ◌++◌, length, get_or, drop, Some, None, Option, unwrap_or, sym, refl, ap, ◌∙◌, subst, inl, inr, arith}
-use Rattle.std.proofs.lemmas.List.{at_drop_more}
+use Rattle.std.proofs.Common.{◌≡◌, ℕ, zero, suc, ◌+◌, ◌-◌, ◌<◌, ◌≤◌, true, false, cond, List, [], ◌∷◌, ◌++◌, length, Some, None, Option, unwrap_or, sym, refl, ap, ◌∙◌, subst, inl, inr, arith}
 use Rattle.std.proofs.lemmas.Bool.{cases_Bool, cases_eq}
+use Rattle.std.specs.Option.{MatchOption, IfSome, IsSomeAnd}
 use Rattle.std.specs.List.{AllByRecursion}
 use Rattle.market.specs.declared.agent.Agent.{Agent}
 use Rattle.market.specs.Rows.{Row, Waits, is_waiting, waits, Continues}
@@ -18,30 +18,49 @@ first_here A a rest e = ap (λ t. cond t (Some a) (first_waiting A rest)) e
 pub first_later : (A : Row) (a : Agent) (rest : List Agent) → waits A a ≡ false → first_waiting A (a ∷ rest) ≡ first_waiting A rest
 first_later A a rest e = ap (λ t. cond t (Some a) (first_waiting A rest)) e
 
--- One turn of a search: the agent at hand waits, or what is left decides.
-module _ (A : Row) (order : List Agent) (i : ℕ) (d : Agent) (h : i < length order) where
-  pub first_stop : waits A (get_or order i d) ≡ true → first_waiting A (drop i order) ≡ Some (get_or order i d)
-  first_stop e = at_drop_more (first_waiting A) order i d h ∙ first_here A (get_or order i d) (drop (i + 1) order) e
+-- The agent of a number.
+abbrev pub numbered : ℕ → Agent
+numbered k = record { number = k }
 
-  pub first_more : waits A (get_or order i d) ≡ false → first_waiting A (drop i order) ≡ first_waiting A (drop (i + 1) order)
-  first_more e = at_drop_more (first_waiting A) order i d h ∙ first_later A (get_or order i d) (drop (i + 1) order) e
+-- Nobody waits among the agents from the number k on.
+none_from : (A : Row) (k n : ℕ) → ((j : ℕ) → k ≤ j → j < k + n → waits A (numbered j) ≡ false) → first_waiting A (agents_from k n) ≡ None
+none_from A k zero none = refl
+none_from A k (suc n) none =
+    first_later A (numbered k) (agents_from (suc k) n) (none k (omega arith) (omega arith)) ∙ none_from A (suc k) n (λ j low high. none j (omega arith) (omega arith))
 
--- One turn of a search among all agents, of which i were passed over.
-module _ (A : Row) (n i : ℕ) (h : i < n) where
-  numbered : agents_from (i + 1) (n - i) ≡ record { number = i + 1 } ∷ agents_from ((i + 1) + 1) (n - (i + 1))
-  numbered =
-      let one : n - i ≡ suc (n - (i + 1)) = omega arith in
-      let two : suc (i + 1) ≡ (i + 1) + 1 = omega arith in
-      ap (agents_from (i + 1)) one ∙ ap (λ k. record { number = i + 1 } ∷ agents_from k (n - (i + 1))) two
+-- The agent i waits among them, and none before it.
+some_from : (A : Row) (k n i : ℕ) → k ≤ i → i < k + n → waits A (numbered i) ≡ true → ((j : ℕ) → k ≤ j → j < i → waits A (numbered j) ≡ false) → first_waiting A (agents_from k n) ≡ Some (numbered i)
+some_from A k zero i low high w none = absurd (omega arith)
+some_from A k (suc n) i low high w none =
+    elim (cases_eq i k) [
+      | inl e ↦
+          let same : k ≡ i = omega arith in
+          first_here A (numbered k) (agents_from (suc k) n) (ap (λ j. waits A (numbered j)) same ∙ w) ∙ ap (λ j. Some (numbered j)) same
+      | inr e ↦
+          first_later A (numbered k) (agents_from (suc k) n) (none k (omega arith) (omega arith))
+          ∙ some_from A (suc k) n i (omega arith) (omega arith) w (λ j from to. none j (omega arith) (omega arith))
+    ]
 
-  pub lowest_stop : waits A (record { number = i + 1 }) ≡ true → first_waiting A (agents_from (i + 1) (n - i)) ≡ Some (record { number = i + 1 })
-  lowest_stop e = ap (first_waiting A) numbered ∙ first_here A (record { number = i + 1 }) (agents_from ((i + 1) + 1) (n - (i + 1))) e
+-- The lowest agent that waits, as a search finds it: the items that it took are the agents 1, 2, .., and all of them if none passed.
+module _ (A : Row) (n len : ℕ) (at : ℕ → Option Agent) (some : len ≤ n) (agents : (k : ℕ) → k < len → at k ≡ Some (numbered (1 + k))) where
+  abbrev pub LowestFound : Option Agent → Type 0
+  LowestFound r =
+      MatchOption r ((len ≡ n) × ((k : ℕ) → IfSome (at k) (λ a. waits A a ≡ false)))
+          (λ a. (i : ℕ) × (len ≡ i + 1) × (at i ≡ Some a) × (waits A a ≡ true) × ((k : ℕ) → k < i → IsSomeAnd (at k) (λ b. waits A b ≡ false)))
 
-  pub lowest_more : waits A (record { number = i + 1 }) ≡ false → first_waiting A (agents_from (i + 1) (n - i)) ≡ first_waiting A (agents_from ((i + 1) + 1) (n - (i + 1)))
-  lowest_more e = ap (first_waiting A) numbered ∙ first_later A (record { number = i + 1 }) (agents_from ((i + 1) + 1) (n - (i + 1))) e
-
-pub lowest_none : (A : Row) (n i : ℕ) → n ≤ i → first_waiting A (agents_from (i + 1) (n - i)) ≡ None
-lowest_none A n i h = let none : n - i ≡ 0 = omega arith in ap (λ k. first_waiting A (agents_from (i + 1) k)) none
+  pub lowest_found : (r : Option Agent) → LowestFound r → r ≡ first_waiting A (agents_from 1 n)
+  lowest_found None f =
+      sym (none_from A 1 n (λ j low high.
+          let same : 1 + (j - 1) ≡ j = omega arith in
+          ap (λ k. waits A (numbered k)) (sym same) ∙ subst (λ o. IfSome o (λ a. waits A a ≡ false)) (agents (j - 1) (omega (arith, f.0))) (f.1 (j - 1))))
+  lowest_found (Some a) f =
+      let taken = agents f.0 (omega (arith, f.1)) in
+      let there = f.2 in
+      let is : a ≡ numbered (1 + f.0) = cc in
+      ap Some is
+      ∙ sym (some_from A 1 n (1 + f.0) (omega arith) (omega (arith, f.1)) (ap (waits A) (sym is) ∙ f.3) (λ j low high.
+          let same : 1 + (j - 1) ≡ j = omega arith in
+          ap (λ k. waits A (numbered k)) (sym same) ∙ subst (λ o. IsSomeAnd o (λ b. waits A b ≡ false)) (agents (j - 1) (omega (arith, f.1))) (f.4 (j - 1) (omega arith))))
 
 pub first_none : (A : Row) (order : List Agent) → first_waiting A order ≡ None → AllByRecursion (λ b. Waits A b → ⊥) order
 first_none A [] e = tt

@@ -1,9 +1,9 @@
 -- Tenants: what their test means, and who claims by them. Assumes nothing.
-use Rattle.std.proofs.Common.{◌≡◌, ℕ, zero, suc, ◌+◌, ◌<◌, true, false, cond, ◌&&◌, eqb, List, [], ◌∷◌, length, get_or, drop, Some, None, unwrap_or, sym, refl, ap, ◌∙◌, subst, inl, inr}
+use Rattle.std.proofs.Common.{◌≡◌, ℕ, zero, suc, true, false, cond, ◌&&◌, eqb, List, [], ◌∷◌, Some, None, unwrap_or, sym, refl, ap, ◌∙◌, subst, inl, inr}
 use Rattle.std.proofs.ByRecursion.{All-weaker}
-use Rattle.std.proofs.lemmas.List.{at_drop_more}
 use Rattle.std.proofs.lemmas.Bool.{cases_Bool, and_parts, and_from, eqb-true, eq-eqb, ne_eqb}
-use Rattle.std.specs.List.{slice_get, AllByRecursion}
+use Rattle.std.specs.List.{slice_get, find, AllByRecursion}
+use Rattle.std.specs.Option.{option_map}
 use Rattle.market.proofs.Pigeonhole.{Apart, apart}
 use Rattle.market.specs.declared.agent.Agent.{Agent}
 use Rattle.market.specs.declared.place.Place.{Place}
@@ -48,7 +48,7 @@ pub tenants_fit : (n m : ℕ) (tenants : List Tenant) → TenantsOf n m tenants 
 tenants_fit n m tenants t =
     keys_fit (λ (t : Tenant). t.place.number) (tenant_fits n m) (InRange n m) (fits_range n m) [] tenants (both _ _ tenants t.places t.agents) t.once
 
--- ---- one turn of the search
+-- ---- the search
 
 module _ (A : Row) (p : Place) (t : Tenant) (rest : List Tenant) where
   elsewhere : eqb t.place.number p.number ≡ false → tenants_at p (t ∷ rest) ≡ tenants_at p rest
@@ -73,18 +73,16 @@ module _ (A : Row) (p : Place) (t : Tenant) (rest : List Tenant) where
         | inr e ↦ claim_elsewhere e
       ]
 
-module _ (A : Row) (p : Place) (tenants : List Tenant) (i : ℕ) (d : Tenant) (h : i < length tenants) where
-  turn : tenant_claims (drop i tenants) A p ≡ tenant_claims (get_or tenants i d ∷ drop (i + 1) tenants) A p
-  turn = at_drop_more (λ l. tenant_claims l A p) tenants i d h
-
-  -- The tenant at hand claims the place, or what is left decides.
-  pub tenant_stop : holds_still A p (get_or tenants i d) ≡ true → tenant_claims (drop i tenants) A p ≡ Some (get_or tenants i d).agent
-  tenant_stop e =
-      let q = and_parts (eqb (get_or tenants i d).place.number p.number) (waits A (get_or tenants i d).agent) e in
-      turn ∙ claim_here A p (get_or tenants i d) (drop (i + 1) tenants) q.0 q.1
-
-  pub tenant_more : holds_still A p (get_or tenants i d) ≡ false → tenant_claims (drop i tenants) A p ≡ tenant_claims (drop (i + 1) tenants) A p
-  tenant_more e = turn ∙ claim_later A p (get_or tenants i d) (drop (i + 1) tenants) e
+-- The claim is that of the first tenant that holds the place still.
+pub claims_found : (A : Row) (p : Place) (tenants : List Tenant) → tenant_claims tenants A p ≡ option_map (λ t. t.agent) (find (holds_still A p) tenants)
+claims_found A p [] = refl
+claims_found A p (t ∷ rest) =
+    elim (cases_Bool (holds_still A p t)) [
+      | inl e ↦
+          let q = and_parts (eqb t.place.number p.number) (waits A t.agent) e in
+          claim_here A p t rest q.0 q.1 ∙ sym (ap (λ b. option_map (λ x. x.agent) (cond b (Some t) (find (holds_still A p) rest))) e)
+      | inr e ↦ claim_later A p t rest e ∙ claims_found A p rest ∙ sym (ap (λ b. option_map (λ x. x.agent) (cond b (Some t) (find (holds_still A p) rest))) e)
+    ]
 
 -- ---- the laws
 

@@ -4,7 +4,7 @@ use mathlib.Core.List.{map-append}
 use lib.ListN.{length-map}
 use Rattle.std.proofs.ByRecursion.{All-map, All-weaker}
 use Rattle.std.proofs.lemmas.Bool.{and_parts, and_from, eqb-true, eqb-false, eq-eqb, ne_eqb, not-true, not_from_false, or_from}
-use Rattle.std.specs.List.{slice_get, AllByRecursion}
+use Rattle.std.specs.List.{slice_get, AllByRecursion, list_any}
 use Rattle.market.specs.declared.agent.Agent.{Agent}
 use Rattle.market.specs.declared.place.Place.{Place}
 use Rattle.market.specs.Data.{agent_numbers, OrderOf}
@@ -15,7 +15,7 @@ use Rattle.market.proofs.Pigeonhole.{UpTo, each_there}
 use Rattle.succession.specs.Orders.{same_agent, is_order, first_waiting, FirstWaiting, agents_from, nobody, owner_by, ordered_terms, OrderedOwns}
 use Rattle.succession.specs.Ranges.{agent_fits}
 use Rattle.succession.specs.Right.{entry_right}
-use Rattle.succession.specs.Scans.{any_of, each_after}
+use Rattle.succession.specs.Scans.{each_after}
 use Rattle.succession.proofs.Firsts.{none≢some, first_none, first_some, first_front, owner_waits, owner_stays}
 use Rattle.succession.proofs.Ranging.{agent_right, agent_fits_true}
 use Rattle.succession.proofs.Scanning.{none_all}
@@ -26,18 +26,18 @@ module _ {X : Type 0} (key : X → ℕ) (fits : X → Bool) (Fits : X → Type 0
   abbrev keyed : X → X → Bool
   keyed x y = eqb (key y) (key x)
 
-  absent : (x : X) (ys : List X) → any_of (keyed x) ys ≡ false → Absent (key x) (map key ys)
+  absent : (x : X) (ys : List X) → list_any (keyed x) ys ≡ false → Absent (key x) (map key ys)
   absent x ys e = All-map (λ k. k ≡ key x → ⊥) key ys (none_all (keyed x) (λ y. key y ≡ key x → ⊥) (λ y f. eqb-false (key y) (key x) f) ys e)
 
-  not_any : (x : X) (ys : List X) → Absent (key x) (map key ys) → any_of (keyed x) ys ≡ false
+  not_any : (x : X) (ys : List X) → Absent (key x) (map key ys) → list_any (keyed x) ys ≡ false
   not_any x [] a = refl
-  not_any x (y ∷ ys) a = or_from (keyed x y) (any_of (keyed x) ys) (ne_eqb (key y) (key x) a.0) (not_any x ys a.1)
+  not_any x (y ∷ ys) a = or_from (keyed x y) (list_any (keyed x) ys) (ne_eqb (key y) (key x) a.0) (not_any x ys a.1)
 
   pub keys_right : ((x : X) → fits x ≡ true → Fits x) → (earlier xs : List X) → each_after (entry_right keyed (λ _ x. fits x)) earlier xs ≡ true → AllByRecursion Fits xs × DistinctAfter (map key earlier) (map key xs)
   keys_right one earlier [] e = (tt, tt)
   keys_right one earlier (x ∷ xs) e =
       let q = and_parts (entry_right keyed (λ _ x. fits x) earlier x) (each_after (entry_right keyed (λ _ x. fits x)) (earlier ++ x ∷ []) xs) e in
-      let w = and_parts (fits x) (not (any_of (keyed x) earlier)) q.0 in
+      let w = and_parts (fits x) (not (list_any (keyed x) earlier)) q.0 in
       let rest = keys_right one (earlier ++ x ∷ []) xs q.1 in
       ((one x w.0, rest.0), (absent x earlier (not-true _ w.1), subst (λ l. DistinctAfter l (map key xs)) (map-append key earlier (x ∷ [])) rest.1))
 

@@ -2,19 +2,20 @@
 use Rattle.std.proofs.Common.{◌≡◌, ℕ, zero, suc, ◌<◌, ◌≤◌, Bool, true, false, not, ◌&&◌, eqb, leb, List, [], ◌∷◌, ◌++◌, length, take, drop, Some, None, Option, unwrap_or, sym, refl, ap, ◌∙◌, subst, inl, inr, append-nil, arith}
 use Rattle.std.proofs.ByRecursion.{All-weaker}
 use Rattle.std.proofs.lemmas.Bool.{cases_Bool, cases_eq, and_parts, and_from, leb-true, le-leb, eqb-true, eq-eqb, not-true, not_from_false, both_ways}
-use Rattle.std.specs.List.{slice_get}
+use Rattle.std.specs.List.{slice_get, list_any}
 use Rattle.market.specs.declared.agent.Agent.{Agent}
 use Rattle.market.specs.declared.node.Node.{Node}
 use Rattle.market.specs.declared.place.Place.{Place}
 use Rattle.market.specs.declared.standing.Standing.{Standing}
 use Rattle.market.specs.declared.standing.Standing.TheVariants.{Waiting, Placed, Unplaced}
 use Rattle.market.specs.Data.{ParentRight, Unlike, NodeRight, NodesRightAfter, TreeOf}
+use Rattle.market.specs.Nodes.{is_node, at_place, parent_fits}
 use Rattle.market.specs.Rows.{Row, standing, Waits}
 use Rattle.market.specs.Rules.{Terms}
 use Rattle.succession.specs.Ranges.{agent_fits, place_fits}
 use Rattle.succession.specs.Right.{entry_right}
-use Rattle.succession.specs.Scans.{any_of, each_after}
-use Rattle.succession.specs.Trees.{is_node, same_node, at_place, parent_fits, node_fits, is_tree, taken_by, go_on, walk_from, heir_claims, DepartedWith, WalkComesTo, at_root, to_child, HeirByWalk, TreeOwns}
+use Rattle.succession.specs.Scans.{each_after}
+use Rattle.succession.specs.Trees.{same_node, node_fits, is_tree, taken_by, go_on, walk_from, heir_claims, DepartedWith, WalkComesTo, at_root, to_child, HeirByWalk, TreeOwns}
 use Rattle.succession.proofs.Firsts.{none≢some}
 use Rattle.succession.proofs.Ordering.{all_nth}
 use Rattle.succession.proofs.Ranging.{agent_right, agent_fits_true, place_right, place_fits_true}
@@ -60,7 +61,7 @@ module _ (n m : ℕ) (earlier : List Node) (a : Node) where
   unfolding ranged
   node_right e =
       let parent = parent_fits earlier a.place.number a.parent a.took in
-      let one = and_parts (ranged && parent) (not (any_of (same_node a) earlier)) e in
+      let one = and_parts (ranged && parent) (not (list_any (same_node a) earlier)) e in
       let two = and_parts ranged parent one.0 in
       let three = and_parts (place_fits m a.place && leb a.took m) (agent_fits n a.heir) two.0 in
       let four = and_parts (place_fits m a.place) (leb a.took m) three.0 in

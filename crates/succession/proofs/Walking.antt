@@ -9,9 +9,10 @@ use Rattle.market.specs.declared.node.Node.{Node}
 use Rattle.market.specs.declared.place.Place.{Place}
 use Rattle.market.specs.declared.standing.Standing.{Standing}
 use Rattle.market.specs.declared.standing.Standing.TheVariants.{Waiting, Placed, Unplaced}
+use Rattle.market.specs.Nodes.{is_node}
 use Rattle.market.specs.Rows.{Row, standing, Waits, Continues}
 use Rattle.market.specs.Rules.{Terms, Lawful}
-use Rattle.succession.specs.Trees.{is_node, taken_by, node_from, go_on, walk_from, heir_claims, tree_terms}
+use Rattle.succession.specs.Trees.{taken_by, node_from, go_on, walk_from, heir_claims, tree_terms}
 use Rattle.succession.proofs.Firsts.{none≢some}
 use Rattle.succession.proofs.Layering.{Lasting, layered_lawful}
 

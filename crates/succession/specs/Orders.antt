@@ -1,7 +1,7 @@
 -- Orders of agents: when a list is one, and who is the first in it that waits.
-use Rattle.std.specs.Prelude.{◌≡◌, ℕ, zero, suc, Bool, cond, ◌&&◌, List, [], ◌∷◌, ◌++◌, length, Some, None, Option, ◌==◌}
+use Rattle.std.specs.Prelude.{◌≡◌, ℕ, zero, suc, Bool, ◌&&◌, List, [], ◌∷◌, ◌++◌, length, Option, ◌==◌}
 use Rattle.std.specs.Option.{unwrap_or}
-use Rattle.std.specs.List.{AllByRecursion}
+use Rattle.std.specs.List.{AllByRecursion, find}
 use Rattle.market.specs.declared.agent.Agent.{Agent}
 use Rattle.market.specs.declared.place.Place.{Place}
 use Rattle.market.specs.Rows.{Row, Waits, waits, PlaceIn, Proper}
@@ -20,8 +20,7 @@ is_order n order = length order == n && each_after (entry_right same_agent (λ e
 
 -- The first agent of a list that waits.
 abbrev pub first_waiting : Row → List Agent → Option Agent
-first_waiting A [] = None
-first_waiting A (a ∷ rest) = cond (waits A a) (Some a) (first_waiting A rest)
+first_waiting A order = find (waits A) order
 
 -- The agent is the first of a list that waits: it waits, and nobody before it in the list does.
 pub record FirstWaiting (A : Row) (order : List Agent) (a : Agent) : Type 0 where

@@ -1,11 +1,12 @@
 -- Trees of heirs: when nodes are right, and who claims a place by a walk through them.
-use Rattle.std.specs.Prelude.{◌≡◌, ℕ, zero, suc, Bool, false, cond, ◌&&◌, ◌⊎◌, List, [], ◌∷◌, length, Some, None, Option, ◌==◌, nat_le}
+use Rattle.std.specs.Prelude.{◌≡◌, ℕ, suc, Bool, cond, ◌&&◌, ◌⊎◌, List, [], ◌∷◌, length, Some, None, Option, nat_le}
 use Rattle.std.specs.List.{slice_get}
 use Rattle.market.specs.declared.agent.Agent.{Agent}
 use Rattle.market.specs.declared.node.Node.{Node}
 use Rattle.market.specs.declared.place.Place.{Place}
 use Rattle.market.specs.declared.standing.Standing.{Standing}
 use Rattle.market.specs.declared.standing.Standing.TheVariants.{Waiting, Placed, Unplaced}
+use Rattle.market.specs.Nodes.{is_node, parent_fits}
 use Rattle.market.specs.Rows.{Row, standing, Waits}
 use Rattle.market.specs.Rules.{Terms}
 use Rattle.succession.specs.Layers.{Claims, layered}
@@ -13,23 +14,9 @@ use Rattle.succession.specs.Ranges.{agent_fits, place_fits}
 use Rattle.succession.specs.Right.{entry_right}
 use Rattle.succession.specs.Scans.{each_after}
 
--- A node has the place p, the parent r and the took number t.
-abbrev pub is_node : ℕ → ℕ → ℕ → Node → Bool
-is_node p r t a = a.place.number == p && a.parent == r && a.took == t
-
 -- Two nodes have the same place, parent and took number.
 abbrev pub same_node : Node → Node → Bool
 same_node a b = is_node a.place.number a.parent a.took b
-
--- A node is there and has the place p.
-abbrev pub at_place : Option Node → ℕ → Bool
-at_place None p = false
-at_place (Some a) p = a.place.number == p
-
--- The parent r is 0, with took number 0, or else the number of an earlier node of the place p.
-abbrev pub parent_fits : List Node → ℕ → ℕ → ℕ → Bool
-parent_fits earlier p zero t = t == 0
-parent_fits earlier p (suc r) t = at_place (slice_get earlier r) p
 
 -- The place, the took number and the heir of a node are in range, and its parent fits the earlier nodes.
 abbrev pub node_fits : ℕ → ℕ → List Node → Node → Bool

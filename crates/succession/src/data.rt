@@ -1,7 +1,10 @@
 // What rules are made of: lists in which each entry is right after those before it.
 ghost use Rattle.std.specs.Prelude.{◌≡◌, ℕ, Bool, List, []};
+ghost use Rattle.std.specs.List.{list_any};
 ghost use Rattle.succession.specs.Right.{entry_right};
-ghost use Rattle.succession.specs.Scans.{any_of, each_after};
+ghost use Rattle.succession.specs.Scans.{each_after};
+
+use market::sizes::Sizes;
 
 /// An entry of a rule's data, for so many agents and places.
 pub trait Entry: Sized {
@@ -16,35 +19,33 @@ pub trait Entry: Sized {
         ensures { result ≡ alike self.now other.now };
 
     /// Whether what the entry says is in range, and fits the entries before it.
-    fn is_sound(&self, agents: u16, places: u16, earlier: &[Self]) -> bool
-        ensures { result ≡ sound agents places earlier.now self.now };
+    fn is_sound(&self, sizes: Sizes, earlier: &[Self]) -> bool
+        ensures { result ≡ sound sizes.agents sizes.places earlier.now self.now };
 }
 
 /// Whether one of the entries may not stand in one list with an entry. All of them are compared, which is quicker than
 /// to stop at the first.
 fn any_like<E: Entry>(one: &E, others: &[E]) -> bool
-    ensures { result ≡ any_of (E.Entry.alike one.now) others.now }
+    ensures { result ≡ list_any (E.Entry.alike one.now) others.now }
 {
-    let mut found = false;
-    for other in others {
-        found = found | one.is_like(other);
-    }
-    found
+    others
+        .iter()
+        .fold(false, |found, other| found | one.is_like(other))
 }
 
 /// Whether an entry is right after the earlier ones.
-fn is_right<E: Entry>(agents: u16, places: u16, earlier: &[E], next: &E) -> bool
-    ensures { result ≡ entry_right E.Entry.alike (E.Entry.sound agents places) earlier.now next.now }
+fn is_right<E: Entry>(sizes: Sizes, earlier: &[E], next: &E) -> bool
+    ensures { result ≡ entry_right E.Entry.alike (E.Entry.sound sizes.agents sizes.places) earlier.now next.now }
 {
-    next.is_sound(agents, places, earlier) && !any_like(next, earlier)
+    next.is_sound(sizes, earlier) && !any_like(next, earlier)
 }
 
 /// Whether each entry is right after those before it.
-pub fn all_right<E: Entry>(agents: u16, places: u16, entries: &[E]) -> bool
-    ensures { result ≡ each_after (entry_right E.Entry.alike (E.Entry.sound agents places)) [] entries.now }
+pub fn all_right<E: Entry>(sizes: Sizes, entries: &[E]) -> bool
+    ensures { result ≡ each_after (entry_right E.Entry.alike (E.Entry.sound sizes.agents sizes.places)) [] entries.now }
 {
-    for i in 0..entries.len() {
-        if !is_right(agents, places, &entries[0..i], &entries[i]) {
+    for (i, next) in entries.iter().enumerate() {
+        if !is_right(sizes, &entries[..i], next) {
             return false;
         }
     }

@@ -8,6 +8,7 @@ use crate::data::{Entry, all_right};
 use crate::range::agent_fits;
 use crate::row::is_waiting;
 use market::agent::Agent;
+use market::sizes::Sizes;
 use market::standing::Standing;
 
 impl Entry for Agent {
@@ -16,11 +17,11 @@ impl Entry for Agent {
     ghost sound = { λ n _ _ a. agent_fits n a };
 
     fn is_like(&self, other: &Agent) -> bool {
-        other.number == self.number
+        other == self
     }
 
-    fn is_sound(&self, agents: u16, _places: u16, _earlier: &[Agent]) -> bool {
-        agent_fits(agents, *self)
+    fn is_sound(&self, sizes: Sizes, _earlier: &[Agent]) -> bool {
+        agent_fits(sizes.agents, *self)
     }
 }
 
@@ -28,41 +29,31 @@ impl Entry for Agent {
 pub fn is_order(agents: u16, order: &[Agent]) -> bool
     ensures { result ≡ is_order agents order.now }
 {
-    order.len() == usize::from(agents) && all_right(agents, 0, order)
+    order.len() == usize::from(agents) && all_right(Sizes { agents, places: 0 }, order)
 }
 
 /// The first agent of a list that waits.
 fn first_waiting(order: &[Agent], row: &[Standing]) -> Option<Agent>
     ensures { result ≡ first_waiting row.now order.now }
 {
-    for agent in order {
-        if is_waiting(row, *agent) {
-            return Some(*agent);
-        }
-    }
-    None
+    order.iter().copied().find(|agent| is_waiting(row, *agent))
 }
 
-/// The lowest agent that waits, or the number 0 where nobody does.
-fn lowest_waiting(agents: u16, row: &[Standing]) -> Agent
-    ensures { result ≡ unwrap_or (first_waiting row.now (agents_from 1 agents)) nobody }
+/// The lowest of all agents that waits.
+fn lowest_waiting(agents: u16, row: &[Standing]) -> Option<Agent>
+    ensures { result ≡ first_waiting row.now (agents_from 1 agents) }
 {
-    for before in 0..agents {
-        let agent = Agent { number: before + 1 };
-        if is_waiting(row, agent) {
-            return agent;
-        }
-    }
-    Agent { number: 0 }
+    (1..=agents)
+        .map(Agent::from)
+        .find(|agent| is_waiting(row, *agent))
 }
 
 /// The owner by an order: the first agent that waits in it. Where none does, which in an order of all agents says that
-/// nobody waits, the lowest agent that waits: so the answer is defined, and lawful, for every list.
+/// nobody waits, the lowest agent that waits, and else the number 0: so the answer is defined, and lawful, for every list.
 pub fn owner_by(agents: u16, order: &[Agent], row: &[Standing]) -> Agent
     ensures { result ≡ owner_by agents order.now row.now }
 {
-    match first_waiting(order, row) {
-        Some(agent) => agent,
-        None => lowest_waiting(agents, row),
-    }
+    first_waiting(order, row)
+        .or_else(|| lowest_waiting(agents, row))
+        .unwrap_or(Agent::from(0))
 }

@@ -9,12 +9,12 @@ use market::place::Place;
 pub fn agent_fits(agents: u16, agent: Agent) -> bool
     ensures { result ≡ agent_fits agents agent }
 {
-    1 <= agent.number && agent.number <= agents
+    (1..=agents).contains(&agent.number)
 }
 
 /// Whether a place is one of the places 1 to `places`.
 pub fn place_fits(places: u16, place: Place) -> bool
     ensures { result ≡ place_fits places place }
 {
-    1 <= place.number && place.number <= places
+    (1..=places).contains(&place.number)
 }

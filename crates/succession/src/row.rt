@@ -9,22 +9,19 @@ use market::standing::Standing;
 pub fn standing_of(row: &[Standing], agent: Agent) -> Standing
     ensures { result ≡ standing row.now agent }
 {
-    let number = usize::from(agent.number);
-    if 0 < number && number <= row.len() {
-        row[number - 1]
-    } else {
-        Standing::Unplaced
-    }
+    agent
+        .number
+        .checked_sub(1)
+        .and_then(|index| row.get(usize::from(index)))
+        .copied()
+        .unwrap_or(Standing::Unplaced)
 }
 
 /// Whether a standing is that of an agent that waits.
 pub fn waiting(standing: Standing) -> bool
     ensures { result ≡ is_waiting standing }
 {
-    match standing {
-        Standing::Waiting => true,
-        Standing::Placed(_) | Standing::Unplaced => false,
-    }
+    standing == Standing::Waiting
 }
 
 /// Whether an agent waits.

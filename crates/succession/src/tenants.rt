@@ -7,6 +7,7 @@ use crate::range::{agent_fits, place_fits};
 use crate::row::is_waiting;
 use market::agent::Agent;
 use market::place::Place;
+use market::sizes::Sizes;
 use market::standing::Standing;
 use market::tenant::Tenant;
 
@@ -16,36 +17,34 @@ impl Entry for Tenant {
     ghost sound = { λ n m _ t. tenant_fits n m t };
 
     fn is_like(&self, other: &Tenant) -> bool {
-        other.place.number == self.place.number
+        other.place == self.place
     }
 
-    fn is_sound(&self, agents: u16, places: u16, _earlier: &[Tenant]) -> bool {
-        place_fits(places, self.place) && agent_fits(agents, self.agent)
+    fn is_sound(&self, sizes: Sizes, _earlier: &[Tenant]) -> bool {
+        place_fits(sizes.places, self.place) && agent_fits(sizes.agents, self.agent)
     }
 }
 
 /// Whether a list is one of tenants: each place and each agent in range, and no place twice.
-pub fn are_tenants(agents: u16, places: u16, tenants: &[Tenant]) -> bool
-    ensures { result ≡ are_tenants agents places tenants.now }
+pub fn are_tenants(sizes: Sizes, tenants: &[Tenant]) -> bool
+    ensures { result ≡ are_tenants sizes.agents sizes.places tenants.now }
 {
-    all_right(agents, places, tenants)
+    all_right(sizes, tenants)
 }
 
 /// Whether a tenant has the place and waits.
-fn holds_still(tenant: Tenant, row: &[Standing], place: Place) -> bool
-    ensures { result ≡ holds_still row.now place tenant }
+fn holds_still(tenant: &Tenant, row: &[Standing], place: Place) -> bool
+    ensures { result ≡ holds_still row.now place tenant.now }
 {
-    tenant.place.number == place.number && is_waiting(row, tenant.agent)
+    tenant.place == place && is_waiting(row, tenant.agent)
 }
 
 /// The tenant of a place, if it waits.
 pub fn waiting_tenant(tenants: &[Tenant], row: &[Standing], place: Place) -> Option<Agent>
     ensures { result ≡ tenant_claims tenants.now row.now place }
 {
-    for tenant in tenants {
-        if holds_still(*tenant, row, place) {
-            return Some(tenant.agent);
-        }
-    }
-    None
+    tenants
+        .iter()
+        .find(|tenant| holds_still(tenant, row, place))
+        .map(|tenant| tenant.agent)
 }

@@ -1,7 +1,8 @@
 // Trees of heirs: when nodes are right, and who claims a place by a walk through them.
 ghost use Rattle.std.specs.Prelude.{◌≡◌, ◌<◌, ◌≤◌, length, drop, IfSome};
+ghost use Rattle.market.specs.Nodes.{is_node};
 ghost use Rattle.market.specs.Rows.{standing};
-ghost use Rattle.succession.specs.Trees.{is_node, same_node, parent_fits, node_fits, is_tree, taken_by, node_from, heir_claims};
+ghost use Rattle.succession.specs.Trees.{same_node, node_fits, is_tree, taken_by, node_from, heir_claims};
 
 use crate::data::{Entry, all_right};
 use crate::range::{agent_fits, place_fits};
@@ -9,28 +10,11 @@ use crate::row::standing_of;
 use market::agent::Agent;
 use market::node::Node;
 use market::place::Place;
+use market::sizes::Sizes;
 use market::standing::Standing;
 
 /// How many nodes a tree has at most.
 const MOST_NODES: usize = 300;
-
-/// Whether a node has the place, the parent and the took number.
-pub fn is_node(node: &Node, place: Place, parent: usize, took: u16) -> bool
-    ensures { result ≡ is_node place.number parent took node.now }
-{
-    node.place.number == place.number && usize::from(node.parent) == parent && node.took == took
-}
-
-/// Whether a parent is 0, with took number 0, or the number of an earlier node of the same place.
-pub fn parent_fits(earlier: &[Node], place: Place, parent: u16, took: u16) -> bool
-    ensures { result ≡ parent_fits earlier.now place.number parent took }
-{
-    if parent == 0 {
-        return took == 0;
-    }
-    let index = usize::from(parent) - 1;
-    index < earlier.len() && earlier[index].place.number == place.number
-}
 
 impl Entry for Node {
     ghost alike = { same_node };
@@ -38,22 +22,22 @@ impl Entry for Node {
     ghost sound = { node_fits };
 
     fn is_like(&self, other: &Node) -> bool {
-        is_node(other, self.place, usize::from(self.parent), self.took)
+        other.is_at(self.branch())
     }
 
-    fn is_sound(&self, agents: u16, places: u16, earlier: &[Node]) -> bool {
-        place_fits(places, self.place)
-            && self.took <= places
-            && agent_fits(agents, self.heir)
-            && parent_fits(earlier, self.place, self.parent, self.took)
+    fn is_sound(&self, sizes: Sizes, earlier: &[Node]) -> bool {
+        place_fits(sizes.places, self.place)
+            && self.took <= sizes.places
+            && agent_fits(sizes.agents, self.heir)
+            && self.branch().fits(earlier)
     }
 }
 
 /// Whether nodes are those of the trees of all places.
-pub fn is_tree(agents: u16, places: u16, nodes: &[Node]) -> bool
-    ensures { result ≡ is_tree agents places nodes.now }
+pub fn is_tree(sizes: Sizes, nodes: &[Node]) -> bool
+    ensures { result ≡ is_tree sizes.agents sizes.places nodes.now }
 {
-    nodes.len() <= MOST_NODES && all_right(agents, places, nodes)
+    nodes.len() <= MOST_NODES && all_right(sizes, nodes)
 }
 
 /// The number of what an agent departed with, 0 for nothing, or none where it waits.
@@ -67,33 +51,28 @@ fn taken_by(row: &[Standing], agent: Agent) -> Option<u16>
     }
 }
 
-/// The index of the child of a node for a took number, or of the root where the node's number is 0 and so is the took
-/// number. A child comes after its parent.
-fn child_of(nodes: &[Node], place: Place, number: usize, took: u16) -> Option<usize>
-    ensures value { result ≡ node_from number place.number number took (drop number nodes.now) }
-    ensures within { IfSome result (λ i. (number ≤ i) × (i < length nodes.now)) }
+/// Whether a node has the place, the parent and the took number.
+fn is_child(node: &Node, place: Place, parent: usize, took: u16) -> bool
+    ensures { result ≡ is_node place.number parent took node.now }
 {
-    for i in number..nodes.len() {
-        if is_node(&nodes[i], place, number, took) {
-            return Some(i);
-        }
-    }
-    None
+    node.place == place && usize::from(node.parent) == parent && node.took == took
 }
 
-/// The heir that the walk from the root of a place comes to and that waits.
+/// The heir that the walk from the root of a place comes to and that waits. A child comes after its parent, so the walk
+/// goes through the nodes once: it looks for the child of a parent for a took number, and the root's parent is 0.
 pub fn waiting_heir(nodes: &[Node], row: &[Standing], place: Place) -> Option<Agent>
     ensures { result ≡ heir_claims nodes.now row.now place }
 {
-    let mut number = 0;
+    let mut parent = 0;
     let mut took = 0;
-    while let Some(index) = child_of(nodes, place, number, took) {
-        let heir = nodes[index].heir;
-        let Some(taken) = taken_by(row, heir) else {
-            return Some(heir);
-        };
-        number = index + 1;
-        took = taken;
+    for (index, node) in nodes.iter().enumerate() {
+        if is_child(node, place, parent, took) {
+            let Some(taken) = taken_by(row, node.heir) else {
+                return Some(node.heir);
+            };
+            parent = index + 1;
+            took = taken;
+        }
     }
     None
 }

@@ -1,12 +1,19 @@
-use Rattle.std.proofs.Common.{ap, ◌∙◌}
-use Rattle.succession.proofs.Scanning.{any_along, any_over}
+use Rattle.std.proofs.Common.{◌≡◌, Bool, false, true, ◌||◌, List, [], ◌∷◌, rules, refl, ◌∙◌, tests}
+use Rattle.std.proofs.lemmas.Iterator.{YieldsList-from_slice}
+use Rattle.std.proofs.lemmas.Iterator.Consumers.{fold_from_yields_List}
+use Rattle.std.specs.List.{fold, list_any}
 use Rattle.succession.proofs.data.any_like.Goals as goal
 
-pub loop-other-preserved : goal.loop-other-preserved
-loop-other-preserved g c =
-    any_along (g.E.Entry.alike c.args.one.now) c.args.others.now c.loop-other.other-index c.other-item.result c.loop-other.found c.is_like-found.result c.loop-other-test.true (c.is_like-found.ensures ∙ ap (g.E.Entry.alike c.args.one.now) c.other-item.is)
-    ∙ c.loop-other.invariant
+-- What was found before a list, and what is found in it.
+found_along : {X : Type 0} (p : X → Bool) (found : Bool) (xs : List X) → fold (λ b x. b || p x) found xs ≡ (found || list_any p xs)
+found_along p true [] = refl
+found_along p false [] = refl
+found_along p true (x ∷ xs) = found_along p true xs
+found_along p false (x ∷ xs) = found_along p (p x) xs
 
 pub returns : goal.returns
 returns g c =
-    any_over (g.E.Entry.alike c.args.one.now) c.args.others.now c.loop-other.other-index c.loop-other.found c.loop-other-test.false ∙ c.loop-other.invariant
+    let p = g.E.Entry.alike c.args.one.now in
+    let xs = c.args.others.now in
+    fold_from_yields_List _ (λ b x. b || p x) false _ c.fold.ensures.ran (YieldsList-from_slice xs cc) (λ a x b q called. search (rules, tests))
+    ∙ found_along p false xs

@@ -1,17 +1,27 @@
-use Rattle.std.proofs.Common.{◌≡◌, ◌-◌, unwrap_or, sym, ap, ◌∙◌, arith}
-use Rattle.succession.specs.Orders.{first_waiting, agents_from, nobody}
-use Rattle.succession.proofs.Firsts.{lowest_stop, lowest_more, lowest_none}
+use Rattle.std.proofs.Common.{rules, arith, ◌≡◌, ℕ, ◌+◌, ◌<◌, ◌≤◌, Some, map, sym, ap, ◌∙◌}
+use Rattle.std.proofs.iter.runs.Made.{at-is}
+use Rattle.std.proofs.iter.runs.Sources.{inclusive_listed}
+use Rattle.std.proofs.lemmas.Iterator.Adapters.{option_map_id}
+use Rattle.std.proofs.lemmas.Option.{slice_get-map}
+use Rattle.std.specs.List.{slice_get}
+use Rattle.std.specs.Option.{option_map}
+use Rattle.succession.proofs.Firsts.{numbered, lowest_found}
 use Rattle.succession.proofs.order.lowest_waiting.Goals as goal
 
-pub loop-before-init : goal.loop-before-init
-loop-before-init c = let all : c.args.agents - 0 ≡ c.args.agents = omega arith in ap (λ n. first_waiting c.args.row.now (agents_from 1 n)) all
-
-pub returns-then-is_waiting : goal.returns-then-is_waiting
-returns-then-is_waiting c =
-    ap (λ o. unwrap_or o nobody) (sym (lowest_stop c.args.row.now c.args.agents c.loop-before.before c.loop-before-test.true (sym c.if-is_waiting.ensures)) ∙ c.loop-before.invariant)
-
-pub loop-before-preserved : goal.loop-before-preserved
-loop-before-preserved c = sym (lowest_more c.args.row.now c.args.agents c.loop-before.before c.loop-before-test.true (sym c.if-is_waiting.ensures)) ∙ c.loop-before.invariant
-
 pub returns : goal.returns
-returns c = ap (λ o. unwrap_or o nobody) (sym (lowest_none c.args.row.now c.args.agents c.loop-before.before c.loop-before-test.false) ∙ c.loop-before.invariant)
+returns c =
+    let A = c.args.row.now in
+    let n = c.args.agents in
+    let r = c.find.ensures.runs in
+    let m = c.map.ensures.runs r.0 r.0.seen r.1 in
+    let q = inclusive_listed m.0 m.0.seen in
+    let e = q.4 (search rules) in
+    let first : q.0 ≡ 1 = search rules in
+    let last : q.1 ≡ n + 1 = search rules in
+    let long : r.0.len ≤ n = omega (arith, e.0.0, m.2.1) in
+    let items : r.0.items ≡ map numbered m.0.items = m.2.3 numbered (search rules) in
+    let at : (k : ℕ) → k < r.0.len → r.0.at k ≡ Some (numbered (1 + k)) = λ k h.
+            at-is r.0 k ∙ ap (λ l. slice_get l k) items ∙ slice_get-map numbered m.0.items k
+            ∙ ap (option_map numbered) (sym (at-is m.0 k) ∙ sym (option_map_id (m.0.at k)) ∙ e.0.3 k (omega arith) ∙ ap (λ a. Some (a + k)) first)
+    in
+    lowest_found A n r.0.len r.0.at long at c.find.result (search (rules, r.2))

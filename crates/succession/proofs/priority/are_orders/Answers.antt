@@ -1,10 +1,7 @@
-use Rattle.std.proofs.Common.{vec_items, sym, ◌∙◌, arith}
-use Rattle.std.proofs.lemmas.Bool.{ne_eqb}
-use Rattle.succession.proofs.Ranking.{counted, miscounted}
+use Rattle.std.proofs.Common.{arith}
+use Rattle.std.proofs.lemmas.Grind.{common_steps}
+use Rattle.std.proofs.lemmas.List.Folds.{list_all-map}
 use Rattle.succession.proofs.priority.are_orders.Goals as goal
 
 pub returns-then-orders-from : goal.returns-then-orders-from
-returns-then-orders-from c = counted vec_items c.args.orders.now c.args.agents c.args.places _ (omega arith) c.each_order.ensures
-
-pub returns-else-orders-from : goal.returns-else-orders-from
-returns-else-orders-from c = ne_eqb _ _ c.if-orders-from.false ∙ miscounted vec_items c.args.orders.now c.args.agents c.args.places (λ e. c.if-orders-from.false (e ∙ sym c.from.ensures))
+returns-then-orders-from c = grind (arith, common_steps, list_all-map)

@@ -1,10 +1,6 @@
-use Rattle.std.proofs.Common.{vec_items, arith}
-use Rattle.succession.proofs.Ranking.{order_read, order_none}
+use Rattle.std.proofs.Common.{rules, vec_items}
+use Rattle.succession.proofs.Ranking.{order_at}
 use Rattle.succession.proofs.priority.order_for.Goals as goal
 
-pub returns-then-number-orders : goal.returns-then-number-orders
-returns-then-number-orders c =
-    order_read vec_items c.args.orders.now c.args.place.number _ c.index-orders-number.result _ (omega arith) (omega arith) (omega arith) c.index-orders-number.is c.as_slice.ensures.value
-
-pub returns-else-number-gt0 : goal.returns-else-number-gt0
-returns-else-number-gt0 c = order_none vec_items c.args.orders.now c.args.place.number (omega arith)
+pub returns : goal.returns
+returns c = order_at _ vec_items c.args.orders.now c.args.place.number c.and_then.result _ (λ e. search rules) (λ h. search rules) (search rules)

@@ -1,19 +1,22 @@
-use Rattle.std.proofs.Common.{sym, ◌∙◌}
-use Rattle.std.proofs.lemmas.List.{at_drop_all}
-use Rattle.succession.specs.Tenancies.{tenant_claims}
-use Rattle.succession.proofs.Holding.{tenant_stop, tenant_more}
+use Rattle.std.proofs.Common.{rules, tests, ◌≡◌, Option, None, Some, Bor, refl, sym, ap, ◌∙◌}
+use Rattle.std.proofs.lemmas.Iterator.{YieldsList-from_slice}
+use Rattle.std.proofs.lemmas.Iterator.Search.{find_from_yields_List}
+use Rattle.std.specs.Option.{option_map}
+use Rattle.market.specs.declared.agent.Agent.{Agent}
+use Rattle.market.specs.declared.tenant.Tenant.{Tenant}
+use Rattle.succession.specs.Tenancies.{holds_still}
+use Rattle.succession.proofs.Holding.{claims_found}
 use Rattle.succession.proofs.tenants.waiting_tenant.Goals as goal
 
-pub returns-then-holds_still : goal.returns-then-holds_still
-returns-then-holds_still c =
-    sym (tenant_stop c.args.row.now c.args.place c.args.tenants.now c.loop-tenant.tenant-index _ c.loop-tenant-test.true (sym c.if-holds_still.ensures))
-    ∙ c.loop-tenant.invariant
-
-pub loop-tenant-preserved : goal.loop-tenant-preserved
-loop-tenant-preserved c =
-    sym (tenant_more c.args.row.now c.args.place c.args.tenants.now c.loop-tenant.tenant-index _ c.loop-tenant-test.true (sym c.if-holds_still.ensures))
-    ∙ c.loop-tenant.invariant
+agent_read : (o : Option (Bor Tenant)) → option_map {U = Agent} (λ t. t.now.agent) o ≡ option_map (λ t. t.agent) (option_map (λ t. t.now) o)
+agent_read None = refl
+agent_read (Some t) = refl
 
 pub returns : goal.returns
 returns c =
-    sym (at_drop_all (λ l. tenant_claims l c.args.row.now c.args.place) c.args.tenants.now c.loop-tenant.tenant-index c.loop-tenant-test.false) ∙ c.loop-tenant.invariant
+    let A = c.args.row.now in
+    let p = c.args.place in
+    let tenants = c.args.tenants.now in
+    let found = find_from_yields_List (holds_still A p) _ _ _ c.find.ensures.ran (YieldsList-from_slice tenants cc) (λ x b q called. search (rules, tests)) in
+    let read : c.map.result ≡ option_map (λ t. t.now.agent) c.find.result = search rules in
+    read ∙ agent_read c.find.result ∙ ap (option_map (λ t. t.agent)) found ∙ sym (claims_found A p tenants)
