@@ -7,21 +7,9 @@ ghost use Rattle.market_reader.specs.Rooms.{room_for};
 ghost use Rattle.market_reader.specs.Tables.{set_at, entry_at};
 ghost use Rattle.std.specs.Vec.{vec_follows_get};
 
-use crate::numbered::Numbered;
+use market_file::numbered::{Numbered, gather};
 use spelling::words::Words;
 use std::alloc::{AllocError, Allocator, Global};
-
-/// Gathers what the words stand for.
-pub(crate) fn gather<T: Numbered>(list: &mut Vec<T>, words: Words<'_>)
-    requires { length (numbers_of words) ≤ vec_capacity list.old }
-    ensures items { list.new.items ≡ map T.Numbered.stands (numbers_of words.entry) }
-    ensures capacity { vec_capacity list.new ≡ vec_capacity list.old }
-{
-    list.clear();
-    for number in words {
-        list.push_reserved(T::from(number));
-    }
-}
 
 /// The entry of a list with a number, counted from 1, where there is one.
 fn entry_at<T, A: Allocator>(list: &mut Vec<T, A>, number: u16) -> Option<&mut T>
