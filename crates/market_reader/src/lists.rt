@@ -71,13 +71,3 @@ pub(crate) fn put_at(list: &mut Vec<u16>, number: u16, value: u16)
         *entry = value;
     }
 }
-
-/// Makes of a list so many zeros.
-pub(crate) fn fill_zeros(list: &mut Vec<u16>, count: u16)
-    requires { count ≤ vec_capacity list.old }
-    ensures items { list.new.items ≡ replicate count 0 }
-    ensures capacity { vec_capacity list.old ≤ vec_capacity list.new }
-{
-    list.clear();
-    let _ = list.resize(usize::from(count), 0);
-}

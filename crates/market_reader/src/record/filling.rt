@@ -5,7 +5,7 @@ ghost use Rattle.market_reader.specs.Filling.{tenant_in, unfilled, entered};
 ghost use Rattle.market_reader.specs.Held.{held, nothing, served_by};
 
 use super::{Market, Served};
-use crate::lists::{clear_all, fill_zeros, gather_at, put_at, rooms};
+use crate::lists::{clear_all, gather_at, put_at, rooms};
 use market::agent::Agent;
 use market::place::Place;
 use market::sizes::Sizes;
@@ -84,7 +84,8 @@ impl Market {
     {
         self.sizes = form.sizes;
         self.served = served_by(form.contents.queues);
-        fill_zeros(&mut self.capacities, form.sizes.places);
+        self.capacities.clear();
+        let _ = self.capacities.resize(usize::from(form.sizes.places), 0);
         self.queue.clear();
         clear_all(&mut self.priorities);
         self.nodes.clear();
