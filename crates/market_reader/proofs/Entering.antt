@@ -126,8 +126,3 @@ few_at [] ls i p q few within e = absurd (omega arith)
 few_at (k ∷ ks) [] i p q few within e = absurd (omega arith)
 few_at (k ∷ ks) (l ∷ ls) zero p q few within e = rw e few.0
 few_at (k ∷ ks) (l ∷ ls) (suc i) p q few within e = few_at ks ls i p q few.1 (omega arith) e
-
-pub length_pairs : (ks : List Kind) (ls : List (List ℕ)) → length (zip ks ls) ≤ length ks
-length_pairs [] ls = omega arith
-length_pairs (k ∷ ks) [] = omega arith
-length_pairs (k ∷ ks) (l ∷ ls) = omega (arith, length_pairs ks ls)

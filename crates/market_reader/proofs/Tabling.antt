@@ -43,7 +43,7 @@ take_set_at m t (suc i) x =
       | inr h ↦ take-set-le m t i x h ∙ sym (set_past (take m t) i x (omega (arith, length-take m t)))
     ]
 
--- One more from the front is the same element; and in the end all are.
+-- One more from the front is the same element.
 pub emptied_more : {X : Type 0} (i : ℕ) (t : List X) (y : X) → i < length t → set (replicate i y ++ drop i t) i y ≡ replicate (i + 1) y ++ drop (i + 1) t
 emptied_more {X = X} i t y h = go i t h ∙ ap (λ k. replicate k y ++ drop k t) (sym (add-one i))
   where
@@ -51,9 +51,6 @@ emptied_more {X = X} i t y h = go i t h ∙ ap (λ k. replicate k y ++ drop k t)
     go i [] h = absurd (omega arith)
     go zero (x ∷ t) h = refl
     go (suc i) (x ∷ t) h = ap (λ l. y ∷ l) (go i t (omega arith))
-
-pub emptied_all : {X : Type 0} (i : ℕ) (t : List X) (y : X) → length t ≤ i → replicate i y ++ drop i t ≡ replicate i y
-emptied_all i t y h = ap (λ l. replicate i y ++ l) (drop_all i t h) ∙ append-nil (replicate i y)
 
 -- ---- room
 
@@ -70,8 +67,3 @@ room_fewer n k [] h r = refl
 room_fewer n k (c ∷ cs) h r =
     let p = and_parts (leb n c) (room_for n cs) r in
     and_from (leb k c) (room_for k cs) (le-leb k c (omega (arith, leb-true n c p.0))) (room_fewer n k cs h p.1)
-
--- One list more with the room.
-pub room_push : (n : ℕ) (cs : List ℕ) (c : ℕ) → room_for n cs ≡ true → n ≤ c → room_for n (cs ++ c ∷ []) ≡ true
-room_push n [] c r h = and_from (leb n c) true (le-leb n c h) refl
-room_push n (x ∷ cs) c r h = let p = and_parts (leb n x) (room_for n cs) r in and_from (leb n x) (room_for n (cs ++ c ∷ [])) p.0 (room_push n cs c p.1 h)
