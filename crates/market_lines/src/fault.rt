@@ -105,6 +105,7 @@ impl LineFault {
 }
 
 impl MarketFault {
+    // Kept: a case with a field has no discriminant, so a match gives each number.
     /// The number of the fault.
     pub fn cause(self) -> u8
         ensures { result ≡ market_cause self }

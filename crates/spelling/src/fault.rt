@@ -12,6 +12,7 @@ pub enum WordFault {
 }
 
 impl WordFault {
+    // Kept: a case with a field has no discriminant, so a match gives each number.
     /// The number of the fault.
     pub fn cause(self) -> u8
         ensures { result ≡ word_cause self }

@@ -10,6 +10,7 @@ use crate::cut::cut;
 use crate::fault::WordFault;
 use crate::word::number;
 
+// Kept: no ghost field says that all words are well spelled, since `after_letter` makes a view of any text.
 /// The words of a line that are still to come.
 #[derive(Clone, Copy)]
 pub struct Words<'a> {
@@ -80,6 +81,7 @@ impl<'a> Words<'a> {
         self.count()
     }
 
+    // Kept: the 0 is what the definition of a missing number says, and `next` answers an `Option`.
     /// The next number, or 0 where there is none.
     pub fn take_next(&mut self) -> u16
         ensures value { result ≡ slice_index (numbers_of self.old) 0 }
