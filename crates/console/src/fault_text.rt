@@ -1,9 +1,9 @@
 // A fault as it is printed.
-ghost use Rattle.std.specs.Prelude.{◌≡◌, ◌+◌, ◌≤◌, ◌++◌, length, vec_len, vec_capacity};
+ghost use Rattle.std.specs.Prelude.{◌≡◌, ◌+◌, ◌≤◌, ◌++◌, length};
 ghost use Rattle.market_lines.specs.Reports.{faulty_line};
 ghost use Rattle.console.specs.Printed.{source_letter, layer_name, fault_head, fault_text};
 
-use crate::put::{put, put_word};
+use crate::page::{Page, ROOM};
 use market_lines::fault::Layer;
 use market_lines::report::{Fault, Source, faulty_line};
 
@@ -29,29 +29,28 @@ fn layer_name(layer: Layer) -> &'static [u8]
     }
 }
 
-/// Puts a fault's own line: the file, the layer, the cause, the line and the word.
-fn put_head(out: &mut Vec<u8>, fault: &Fault)
-    requires { vec_len out.old + 80 ≤ vec_capacity out.old }
-    ensures items { out.new.items ≡ out.old.items ++ fault_head fault.now }
-    ensures len { vec_len out.new ≤ vec_len out.old + 80 }
-    ensures capacity { vec_capacity out.old ≤ vec_capacity out.new }
-{
-    put(out, b"E ");
-    put(out, &[source_letter(fault.source), b' ']);
-    put(out, layer_name(fault.fault.layer()));
-    put_word(out, usize::from(fault.fault.cause()));
-    put_word(out, fault.fault.line());
-    put_word(out, fault.fault.word());
-    put(out, b"\n");
-}
+impl Page {
+    /// Puts a fault's own line: the file, the layer, the cause, the line and the word.
+    fn put_head(&mut self, fault: &Fault)
+        requires { length self.old + 80 ≤ ROOM }
+        ensures text { self.new ≡ self.old ++ fault_head fault.now }
+        ensures len { length self.new ≤ length self.old + 80 }
+    {
+        let found = fault.fault;
+        self.put(b"E ");
+        self.put(&[source_letter(fault.source), b' ']);
+        self.put(layer_name(found.layer()));
+        self.put_words(&[usize::from(found.cause()), found.line(), found.word()]);
+        self.put(b"\n");
+    }
 
-/// Puts a fault and, below it, the faulty line.
-pub(crate) fn put_fault(out: &mut Vec<u8>, market: &[u8], session: &[u8], fault: &Fault)
-    requires { vec_len out.old + length (faulty_line market.now session.now fault.now) + 81 ≤ vec_capacity out.old }
-    ensures items { out.new.items ≡ out.old.items ++ fault_text market.now session.now fault.now }
-    ensures capacity { vec_capacity out.old ≤ vec_capacity out.new }
-{
-    put_head(out, fault);
-    put(out, faulty_line(market, session, fault));
-    put(out, b"\n");
+    /// Puts a fault and, below it, the faulty line.
+    pub(crate) fn put_fault(&mut self, market: &[u8], session: &[u8], fault: &Fault)
+        requires { length self.old + length (faulty_line market.now session.now fault.now) + 81 ≤ ROOM }
+        ensures { self.new ≡ self.old ++ fault_text market.now session.now fault.now }
+    {
+        self.put_head(fault);
+        self.put(faulty_line(market, session, fault));
+        self.put(b"\n");
+    }
 }

@@ -3,8 +3,7 @@
 
 mod fault_text;
 mod market_text;
-mod ok_text;
-mod put;
+mod page;
 pub mod reply;
 #[cfg(test)]
 mod tests;

@@ -1,29 +1,17 @@
 // What is printed of a market: its numbers of agents and places, and who owns each place while everybody waits.
-ghost use Rattle.std.specs.Prelude.{◌≡◌, ◌+◌, ◌*◌, ◌≤◌, ◌++◌, length, replicate, vec_len, vec_capacity};
+ghost use Rattle.std.specs.Prelude.{◌≡◌, ◌+◌, ◌*◌, ◌≤◌, ◌++◌, length, replicate, vec_capacity};
 ghost use Rattle.market.specs.declared.standing.Standing.TheVariants.{Waiting};
 ghost use Rattle.market_reader.specs.Held.{held};
 ghost use Rattle.market_reader.specs.Keeping.{SoundMarket};
-ghost use Rattle.console.specs.Printed.{pair_text, owners_text, market_text};
+ghost use Rattle.console.specs.Printed.{ok_text, owners_text, market_text};
 
-use crate::put::{put, put_word};
+use crate::page::{Page, ROOM};
 use inheritance::rule::Rule;
 use market::place::Place;
+use market::sizes::Sizes;
 use market::standing::Standing;
 use market_reader::record::Market;
 use piles::pile::pile_of;
-
-/// Puts a line: a name and two numbers.
-fn put_pair(out: &mut Vec<u8>, name: &[u8], first: u16, second: u16)
-    requires { vec_len out.old + length name.now + 43 ≤ vec_capacity out.old }
-    ensures items { out.new.items ≡ out.old.items ++ pair_text name.now first second }
-    ensures len { vec_len out.new ≤ vec_len out.old + length name.now + 43 }
-    ensures capacity { vec_capacity out.old ≤ vec_capacity out.new }
-{
-    put(out, name);
-    put_word(out, usize::from(first));
-    put_word(out, usize::from(second));
-    put(out, b"\n");
-}
 
 /// Makes of a row one in which so many agents wait.
 fn all_wait(row: &mut Vec<Standing>, agents: u16)
@@ -35,33 +23,39 @@ fn all_wait(row: &mut Vec<Standing>, agents: u16)
     let _ = row.resize(usize::from(agents), Standing::Waiting);
 }
 
-/// Puts the owner of each place in a row.
-fn put_owners<R: Rule>(out: &mut Vec<u8>, rule: &R, row: &[Standing])
-    requires { vec_len out.old + 48 * (R.Rule.terms rule.now).places ≤ vec_capacity out.old }
-    ensures items { out.new.items ≡ out.old.items ++ owners_text (R.Rule.terms rule.now) row.now }
-    ensures capacity { vec_capacity out.old ≤ vec_capacity out.new }
-{
-    for index in 0..rule.places() {
-        let number = index + 1;
-        let owner = rule.owner(row, Place { number });
-        put_pair(out, b"owner", number, owner.number);
+impl Page {
+    /// Puts `ok` and the sizes of a market.
+    pub(crate) fn put_sizes(&mut self, sizes: Sizes)
+        requires { length self.old + 45 ≤ ROOM }
+        ensures text { self.new ≡ self.old ++ ok_text sizes }
+        ensures len { length self.new ≤ length self.old + 45 }
+    {
+        self.put_pair(b"ok", sizes.agents, sizes.places);
     }
-}
 
-/// Puts a market that a file says: `ok`, its numbers of agents and places, and the owner of each place while everybody
-/// waits.
-pub(crate) fn put_market(out: &mut Vec<u8>, row: &mut Vec<Standing>, market: &Market)
-    requires sound { SoundMarket (held market.now) }
-    requires room { vec_len out.old + 1965 ≤ vec_capacity out.old }
-    requires agents { 200 ≤ vec_capacity row.old }
-    ensures items { out.new.items ≡ out.old.items ++ market_text (held market.now) }
-    ensures capacity { vec_capacity out.old ≤ vec_capacity out.new }
-    ensures room { vec_capacity row.old ≤ vec_capacity row.new }
-{
-    let Ok(pile) = pile_of(market) else {
-        unreachable()
-    };
-    all_wait(row, market.agents());
-    put_pair(out, b"ok", market.agents(), market.places());
-    put_owners(out, &pile, row.as_slice());
+    /// Puts the owner of each place in a row.
+    fn put_owners<R: Rule>(&mut self, rule: &R, row: &[Standing])
+        requires { length self.old + 48 * (R.Rule.terms rule.now).places ≤ ROOM }
+        ensures { self.new ≡ self.old ++ owners_text (R.Rule.terms rule.now) row.now }
+    {
+        for number in 1..=rule.places() {
+            let owner = rule.owner(row, Place { number });
+            self.put_pair(b"owner", number, owner.number);
+        }
+    }
+
+    /// Puts a market that a file says: `ok`, its numbers of agents and places, and the owner of each place while
+    /// everybody waits.
+    pub(crate) fn put_market(&mut self, row: &mut Vec<Standing>, market: &Market)
+        requires sound { SoundMarket (held market.now) }
+        requires room { length self.old + 1965 ≤ ROOM }
+        requires agents { 200 ≤ vec_capacity row.old }
+        ensures text { self.new ≡ self.old ++ market_text (held market.now) }
+        ensures room { vec_capacity row.old ≤ vec_capacity row.new }
+    {
+        let pile = pile_of(market).unwrap();
+        all_wait(row, market.sizes().agents);
+        self.put_sizes(market.sizes());
+        self.put_owners(&pile, row.as_slice());
+    }
 }

@@ -1,6 +1,5 @@
 // The program's answer: the bytes that it prints, made in room that was reserved beforehand.
-ghost use Rattle.std.specs.Prelude.{◌≤◌, vec_capacity};
-
+use crate::page::Page;
 use market_file::ledger::Ledger;
 
 mod answer;
@@ -9,7 +8,6 @@ pub mod owners;
 /// Room for any answer and for the check of a file, and the last answer in it.
 #[derive(Drop)]
 pub struct Reply {
-    text: Vec<u8>,
+    page: Page,
     ledger: Ledger,
-    ghost room: { 65700 ≤ vec_capacity text },
 }

@@ -3,6 +3,7 @@ use Rattle.std.specs.Prelude.{◌≡◌, ℕ, ◌≤◌, cond, List, ◌++◌, r
 use Rattle.market_lines.specs.declared.kind.Kind.{Kind}
 use Rattle.market_lines.specs.declared.kind.Kind.TheVariants as kind
 use Rattle.market_file.specs.declared.form.Contents.{Contents}
+use Rattle.market_file.specs.declared.kinds.Kinds.{Kinds}
 use Rattle.market.specs.declared.sizes.Sizes.{Sizes}
 
 -- The kinds of the lines after the first two, in file order: the sections S, Q, P, H, T and R, each with as many lines as the contents say.
@@ -14,6 +15,10 @@ kinds_of c =
     (replicate c.heirs kind.Heir ++
     (replicate c.tenants kind.Tenant ++
     replicate c.rankings kind.Ranking))))
+
+-- The kinds that are still to come.
+abbrev pub kinds_left : Kinds → List Kind
+kinds_left s = kinds_of s.left
 
 -- The sizes that the numbers of an M line say.
 abbrev pub sizes_in : List ℕ → Sizes

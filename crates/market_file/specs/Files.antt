@@ -53,6 +53,10 @@ abbrev pub named_at : ℕ → Option NameFault → Result Unit MarketFault
 named_at n None = Ok tt
 named_at n (Some f) = Err (wrong_at n f)
 
+-- The check of line n of the sections, after lines of which d is known: formed as its kind asks and naming nothing wrongly, or its first fault.
+abbrev pub line_checked : Sizes → ℕ → Known → Kind → List ℕ → Result Unit MarketFault
+line_checked z n d k l = and_then (at_line n (line_formed k z l)) (named_at n (name_fault d.names d.nodes k (numbers_at l)))
+
 -- The check of the sections, with n lines before them and what is known of these: as many lines as there are kinds due, each formed as its kind asks and naming nothing wrongly, or the first fault.
 abbrev pub sections_checked : Sizes → ℕ → Known → List Kind → List (List ℕ) → Result Unit MarketFault
 sections_checked z n d [] [] = Ok tt

@@ -1,8 +1,9 @@
 // What the first two lines of a file say: the sizes of the market, and the contents.
 ghost use Rattle.std.specs.Prelude.{◌≡◌};
 ghost use Rattle.std.specs.List.{slice_get};
-ghost use Rattle.market_file.specs.Contents.{kinds_of};
+ghost use Rattle.market_file.specs.Contents.{kinds_of, kinds_left};
 
+use crate::kinds::Kinds;
 use market::sizes::Sizes;
 use market_lines::kind::Kind;
 
@@ -25,30 +26,17 @@ pub struct Form {
 }
 
 impl Contents {
+    /// The kinds of the lines of the sections, in file order.
+    pub fn kinds(&self) -> Kinds
+        ensures { kinds_left result ≡ kinds_of self.now }
+    {
+        Kinds::new(*self)
+    }
+
     /// The kind of line that is due after so many lines of the sections, where one is.
     pub fn due(&self, after: usize) -> Option<Kind>
         ensures { result ≡ slice_get (kinds_of self.now) after }
     {
-        let seats = usize::from(self.seats);
-        let queues = seats + usize::from(self.queues);
-        let priorities = queues + usize::from(self.priorities);
-        let heirs = priorities + usize::from(self.heirs);
-        let tenants = heirs + usize::from(self.tenants);
-        let rankings = tenants + usize::from(self.rankings);
-        if after < seats {
-            Some(Kind::Seats)
-        } else if after < queues {
-            Some(Kind::Queue)
-        } else if after < priorities {
-            Some(Kind::Priorities)
-        } else if after < heirs {
-            Some(Kind::Heir)
-        } else if after < tenants {
-            Some(Kind::Tenant)
-        } else if after < rankings {
-            Some(Kind::Ranking)
-        } else {
-            None
-        }
+        self.kinds().nth(after)
     }
 }

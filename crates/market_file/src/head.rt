@@ -1,12 +1,14 @@
 // The first two lines of a file: the sizes of the market, and the contents.
-ghost use Rattle.std.specs.Prelude.{◌≡◌};
+ghost use Rattle.std.specs.Prelude.{◌≡◌, ◌<◌, not, length, IfSome};
+ghost use Rattle.std.specs.List.{position};
 ghost use Rattle.std.specs.Option.{option_map};
 ghost use Rattle.spelling.specs.Views.{numbers_of};
 ghost use Rattle.market_file.specs.Contents.{sizes_in, contents_in, wrong_count};
 ghost use Rattle.market_file.specs.Files.{sizes_read, contents_read};
 
+use crate::due::Due;
 use crate::form::Contents;
-use crate::line::numbered_line;
+use crate::sections::broken;
 use market::sizes::Sizes;
 use market_lines::fault::{MarketFault, Spot};
 use market_lines::kind::Kind;
@@ -43,6 +45,14 @@ pub(crate) fn contents_in(words: Words<'_>) -> Contents
     }
 }
 
+/// The index of the leftmost test that failed.
+fn first_failed(tests: &[bool]) -> Option<usize>
+    ensures value { result ≡ position not tests.now }
+    ensures within { IfSome result (λ i. i < length tests.now) }
+{
+    tests.iter().position(|passed| !*passed)
+}
+
 /// The place, from 1, of the leftmost count of the contents that is wrong for the sizes.
 pub(crate) fn wrong_count(sizes: Sizes, contents: Contents) -> Option<usize>
     ensures { result ≡ wrong_count sizes contents }
@@ -52,35 +62,27 @@ pub(crate) fn wrong_count(sizes: Sizes, contents: Contents) -> Option<usize>
     } else {
         sizes.places
     };
-    if contents.seats != sizes.places {
-        Some(1)
-    } else if contents.queues > 1 {
-        Some(2)
-    } else if contents.priorities != priorities_due {
-        Some(3)
-    } else if contents.heirs > 300 {
-        Some(4)
-    } else if contents.tenants > sizes.places {
-        Some(5)
-    } else if contents.rankings > sizes.agents {
-        Some(6)
-    } else {
-        None
-    }
+    let index = first_failed(&[
+        contents.seats == sizes.places,
+        contents.queues <= 1,
+        contents.priorities == priorities_due,
+        contents.heirs <= 300,
+        contents.tenants <= sizes.places,
+        contents.rankings <= sizes.agents,
+    ])?;
+    Some(index + 1)
 }
 
 /// The sizes that the first line of a file says.
 pub(crate) fn read_sizes(text: Option<&[u8]>) -> Result<Sizes, MarketFault>
     ensures { result ≡ sizes_read (option_map (λ x. x.now) text.entry) }
 {
-    let Some(text) = text else {
-        return Err(MarketFault::Contents(Spot { line: 1, word: 0 }));
+    let text = text.ok_or(broken(1))?;
+    let due = Due {
+        kind: Kind::Market,
+        sizes: Sizes::default(),
     };
-    let unknown = Sizes {
-        agents: 0,
-        places: 0,
-    };
-    let line = numbered_line(1, Kind::Market, unknown, text)?;
+    let line = due.read_numbered(1, text)?;
     Ok(sizes_in(line.words()))
 }
 
@@ -88,10 +90,12 @@ pub(crate) fn read_sizes(text: Option<&[u8]>) -> Result<Sizes, MarketFault>
 pub(crate) fn read_contents(sizes: Sizes, text: Option<&[u8]>) -> Result<Contents, MarketFault>
     ensures { result ≡ contents_read sizes (option_map (λ x. x.now) text.entry) }
 {
-    let Some(text) = text else {
-        return Err(MarketFault::Contents(Spot { line: 2, word: 0 }));
+    let text = text.ok_or(broken(2))?;
+    let due = Due {
+        kind: Kind::Contents,
+        sizes,
     };
-    let line = numbered_line(2, Kind::Contents, sizes, text)?;
+    let line = due.read_numbered(2, text)?;
     let contents = contents_in(line.words());
     match wrong_count(sizes, contents) {
         Some(word) => Err(MarketFault::Contents(Spot { line: 2, word })),

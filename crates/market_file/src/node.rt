@@ -18,9 +18,9 @@ pub fn node_in(words: Words<'_>) -> Node
     let took = words.take_next();
     let heir = words.take_next();
     Node {
-        place: Place { number: place },
+        place: Place::from(place),
         parent,
         took,
-        heir: Agent { number: heir },
+        heir: Agent::from(heir),
     }
 }

@@ -1,6 +1,19 @@
 -- One record more in a market. Assumes nothing.
-use Rattle.std.proofs.Common.{◌≡◌, ℕ, ◌+◌, ◌≤◌, Bool, true, false, cond, List, [], ◌∷◌, map, length, take, replicate, sym, refl, ap, ◌∙◌, append_assoc, append-nil, arith}
+use Rattle.std.proofs.Common.{◌≡◌, ℕ, zero, suc, ◌+◌, ◌<◌, ◌≤◌, Bool, true, false, cond, List, [], ◌∷◌, ◌++◌, map, length, get_or, take, drop, replicate, Bor, sym, refl, ap, ◌∙◌, append_assoc, append-nil, arith}
 use Rattle.std.proofs.lemmas.List.{take-replicate, length_push}
+use Rattle.std.proofs.lemmas.Iterator.{YieldsList, zips, YieldsList-from_zip}
+use Rattle.std.proofs.lemmas.Iterator.Adapters.{YieldsList-from_skip}
+use Rattle.std.proofs.lemmas.Iterator.Consumers.{YieldsList-from_first}
+use Rattle.std.specs.Iterator.{YieldsFirst}
+use Rattle.std.specs.Iterator.Adapters.{zip_first, zip_second, skip_source, skip_count, skip_steps}
+use Rattle.std.specs.List.{AllByRecursion, zip}
+use Rattle.std.specs.declared.iter.Zip.{Zip}
+use Rattle.std.specs.declared.iter.Skip.{Skip}
+use Rattle.spelling.specs.declared.lines.Lines.{Lines}
+use Rattle.spelling.specs.Lines.{lines}
+use Rattle.spelling.proofs.Filing.{line_steps, road_of}
+use Rattle.market_file.specs.Contents.{kinds_left}
+use Rattle.market_file.specs.declared.kinds.Kinds.{Kinds}
 use Rattle.market.specs.declared.agent.Agent.{Agent}
 use Rattle.market_lines.specs.declared.kind.Kind.{Kind}
 use Rattle.market_lines.specs.declared.kind.Kind.TheVariants as kind
@@ -79,22 +92,37 @@ entered_tenants kind.Heir ns h = omega arith
 entered_tenants kind.Tenant ns h = omega (arith, length_push h.tenants (tenant_in ns))
 entered_tenants kind.Ranking ns h = omega arith
 
--- ---- lines as records
+-- The last record, and those before it.
+pub after_last : (h : Held) (es : List Entry) (e : Entry) → after h (es ++ e ∷ []) ≡ entered e.kind e.numbers (after h es)
+after_last h [] e = after_first e.kind e.numbers h [] ∙ after_none (entered e.kind e.numbers h) ∙ ap (entered e.kind e.numbers) (sym (after_none h))
+after_last h (f ∷ es) e =
+    after_first f.kind f.numbers h (es ++ e ∷ [])
+    ∙ after_last (entered f.kind f.numbers h) es e
+    ∙ ap (entered e.kind e.numbers) (sym (after_first f.kind f.numbers h es))
 
-pub none_due_entries : (ks : List Kind) (ls : List (List ℕ)) → ks ≡ [] → entries_of ks ls ≡ []
-none_due_entries ks ls e = ap (λ l. entries_of l ls) e
+-- ---- a kind and a line together
 
-pub no_lines_entries : (ks : List Kind) (ls : List (List ℕ)) → ls ≡ [] → entries_of ks ls ≡ []
-no_lines_entries ks ls e = ap (entries_of ks) e ∙ go ks
-  where
-    go : (ks : List Kind) → entries_of ks [] ≡ []
-    go [] = refl
-    go (k ∷ ks) = refl
+-- The record of a line.
+abbrev pub entry_in : Kind × List ℕ → Entry
+entry_in p = record { kind = p.0; numbers = numbers_at p.1 }
 
--- A line that is due is the next record.
-pub line_entered : (h : Held) (k : Kind) (ns : List ℕ) (ks js : List Kind) (x : List ℕ) (ss ts : List (List ℕ)) → ks ≡ k ∷ js → ss ≡ x ∷ ts → ns ≡ numbers_at x → after h (entries_of ks ss) ≡ after (entered k ns h) (entries_of js ts)
-line_entered h k ns ks js x ss ts due first same =
-    ap (λ l. after h (entries_of l ss)) due
-    ∙ ap (λ l. after h (entries_of (k ∷ js) l)) first
-    ∙ after_first k (numbers_at x) h (entries_of js ts)
-    ∙ ap (λ l. after (entered k l h) (entries_of js ts)) (sym same)
+-- What a kind and the place of a line stand for.
+abbrev pub pair_at : Kind × Bor (List ℕ) → Kind × List ℕ
+pair_at p = (p.0, p.1.now)
+
+-- The kinds and the lines come together, one for one.
+pub pairs_of : (it : Zip Kinds (Skip Lines)) (ks : List Kind) (file : List ℕ) → kinds_left (zip_first it) ≡ ks → (skip_source (zip_second it)).rest.now ≡ file → skip_count (zip_second it) ≡ 2 → YieldsList (zips (YieldsFirst kinds_left) (skip_steps line_steps)) pair_at it (zip ks (drop 2 (lines file)))
+pairs_of it ks file kinds source count =
+    YieldsList-from_zip (YieldsList-from_first (λ k. k) kinds_left ks kinds) (YieldsList-from_skip 2 (road_of (skip_source (zip_second it)) file source) count)
+
+pub entries_of_pairs : (ks : List Kind) (ls : List (List ℕ)) → map entry_in (zip ks ls) ≡ entries_of ks ls
+entries_of_pairs [] ls = refl
+entries_of_pairs (k ∷ ks) [] = refl
+entries_of_pairs (k ∷ ks) (l ∷ ls) = ap (λ es. entry_in (k, l) ∷ es) (entries_of_pairs ks ls)
+
+-- Each line has few words.
+pub few_at : (ks : List Kind) (ls : List (List ℕ)) (i : ℕ) (p q : Kind × List ℕ) → AllByRecursion (λ l. length (numbers_at l) ≤ 201) ls → i < length (zip ks ls) → p ≡ get_or (zip ks ls) i q → length (numbers_at p.1) ≤ 201
+few_at [] ls i p q few within e = absurd (omega arith)
+few_at (k ∷ ks) [] i p q few within e = absurd (omega arith)
+few_at (k ∷ ks) (l ∷ ls) zero p q few within e = rw e few.0
+few_at (k ∷ ks) (l ∷ ls) (suc i) p q few within e = few_at ks ls i p q few.1 (omega arith) e

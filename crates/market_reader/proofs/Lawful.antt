@@ -100,8 +100,3 @@ market_law file r e =
       named = λ x s b. e ∙ ap (λ o. market_from o (lines file)) (known.named x s b);
       alike = λ other c o s. ap (λ x. market_from x (lines other)) (known.alike other c o s) ∙ ap (market_from (file_form file)) (same_lines file other c) ∙ sym e;
     }
-
--- What was answered and what the market then holds are together what was read.
-pub answered_read : (r : Result Held MarketFault) (v : Result Unit MarketFault) (h old : Held) → v ≡ verdict_of r → h ≡ left r old → answered v h ≡ r
-answered_read (Ok x) v h old e f = ap (λ w. answered w h) e ∙ ap Ok f
-answered_read (Err x) v h old e f = ap (λ w. answered w h) e

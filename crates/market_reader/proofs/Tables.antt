@@ -2,6 +2,8 @@
 use Rattle.std.proofs.Common.{◌≡◌, ℕ, zero, suc, ◌<◌, eqb, ◌⊎◌, List, [], ◌∷◌, map, length, set, replicate, Some, None, sym, refl, ap, ◌∙◌, subst, inl, inr, arith, length-set}
 use Rattle.std.proofs.lemmas.List.{length-map, length-replicate}
 use Rattle.std.proofs.lemmas.Bool.{cases_Bool, eqb-true, eqb-false}
+use Rattle.std.proofs.lemmas.Grind.{common_steps}
+use Rattle.std.proofs.lemmas.Option.{gets, slice_get_within}
 use Rattle.std.specs.List.{slice_get, AllByRecursion}
 use Rattle.market.specs.Distinct.{Absent, Distinct}
 use Rattle.market.proofs.Pigeonhole.{Apart, UpTo, apart, each_there}
@@ -15,32 +17,14 @@ some_same x y e = cc
 none_some : {X : Type 0} {P : Type 0} (x : X) → None ≡ Some x → P
 none_some x e = let z : ◌≡◌ {A = ℕ} 0 1 = cc in absurd (omega arith)
 
-pub nth_inside : {X : Type 0} (t : List X) (i : ℕ) (x : X) → slice_get t i ≡ Some x → i < length t
-nth_inside [] i x e = none_some x e
-nth_inside (y ∷ t) zero x e = omega arith
-nth_inside (y ∷ t) (suc i) x e = omega (arith, nth_inside t i x e)
-
-nth_there : {X : Type 0} (t : List X) (i : ℕ) → i < length t → (x : X) × (slice_get t i ≡ Some x)
-nth_there [] i h = absurd (omega arith)
-nth_there (y ∷ t) zero h = (y, refl)
-nth_there (y ∷ t) (suc i) h = nth_there t i (omega arith)
-
 nth_set_same : {X : Type 0} (t : List X) (i : ℕ) (x : X) → i < length t → slice_get (set t i x) i ≡ Some x
-nth_set_same [] i x h = absurd (omega arith)
-nth_set_same (y ∷ t) zero x h = refl
-nth_set_same (y ∷ t) (suc i) x h = nth_set_same t i x (omega arith)
+nth_set_same t i x h = grind (arith, common_steps, gets)
 
 nth_set_other : {X : Type 0} (t : List X) (i j : ℕ) (x : X) → (i ≡ j → ⊥) → slice_get (set t i x) j ≡ slice_get t j
-nth_set_other [] i j x n = refl
-nth_set_other (y ∷ t) zero zero x n = absurd (n refl)
-nth_set_other (y ∷ t) zero (suc j) x n = refl
-nth_set_other (y ∷ t) (suc i) zero x n = refl
-nth_set_other (y ∷ t) (suc i) (suc j) x n = nth_set_other t i j x (λ e. n (ap suc e))
+nth_set_other t i j x n = grind (arith, common_steps, gets)
 
 nth_replicate : {X : Type 0} (n i : ℕ) (d x : X) → slice_get (replicate n d) i ≡ Some x → x ≡ d
-nth_replicate zero i d x e = none_some x e
-nth_replicate (suc n) zero d x e = sym (some_same d x e)
-nth_replicate (suc n) (suc i) d x e = nth_replicate n i d x e
+nth_replicate n i d x e = grind (arith, common_steps, gets)
 
 -- Two lists with the same elements at each index are the same.
 same_lists : {X : Type 0} (t u : List X) → length t ≡ length u → ((i : ℕ) (x y : X) → slice_get t i ≡ Some x → slice_get u i ≡ Some y → x ≡ y) → t ≡ u
@@ -162,6 +146,6 @@ all_told {X = X} P value default size nss t a once range count all = all_by_nth 
         elim (a.said i x e) [
           | inl said ↦ subst P (sym said.3) (nth_all (λ ns. P (value ns)) nss said.1.0 said.0 all said.1.1)
           | inr none ↦
-              let found = each_there size (map about nss) once (ranges nss range) (length-map nss about ∙ count) (suc i) (omega arith, omega (arith, nth_inside t i x e, a.entries)) in
+              let found = each_there size (map about nss) once (ranges nss range) (length-map nss about ∙ count) (suc i) (omega arith, omega (arith, slice_get_within t i x e, a.entries)) in
               absurd (nowhere nss (suc i) found.0 none.0 found.1)
         ]

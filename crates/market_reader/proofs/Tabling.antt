@@ -1,25 +1,38 @@
 -- Lists filled by numbers. Assumes nothing.
-use Rattle.std.proofs.Common.{◌≡◌, ℕ, zero, suc, ◌+◌, ◌<◌, ◌≤◌, true, leb, ◌⊎◌, List, [], ◌∷◌, ◌++◌, length, get_or, take, drop, set, replicate, sym, refl, ap, ◌∙◌, inl, inr, append-nil, add-one, arith}
-use lib.Seq.{take-set-lt, take-set-le}
+use Rattle.std.proofs.Common.{◌≡◌, ℕ, zero, suc, ◌+◌, ◌-◌, ◌<◌, ◌≤◌, true, leb, ◌⊎◌, List, [], ◌∷◌, ◌++◌, Some, None, map, length, take, drop, set, replicate, sym, refl, ap, ◌∙◌, inl, inr, append-nil, add-one, arith}
+use lib.Seq.{map-set, take-set-lt, take-set-le}
+use Rattle.std.specs.List.{slice_get}
 use Rattle.std.proofs.lemmas.List.{drop_all, length-take}
 use Rattle.std.proofs.lemmas.Bool.{and_parts, and_from, le-leb, leb-true, cases_lt}
 use Rattle.market_reader.specs.Rooms.{room_for}
-use Rattle.market_reader.specs.Tables.{set_at}
-
--- A number counted from 1 is an index and one more.
-pub set_at_index : {X : Type 0} (t : List X) (n i : ℕ) (x : X) → n ≡ suc i → set_at t n x ≡ set t i x
-set_at_index t n i x e = ap (λ k. set_at t k x) e
+use Rattle.market_reader.specs.Tables.{set_at, entry_at}
 
 set_past : {X : Type 0} (t : List X) (i : ℕ) (x : X) → length t ≤ i → set t i x ≡ t
 set_past [] i x h = refl
 set_past (y ∷ t) zero x h = absurd (omega arith)
 set_past (y ∷ t) (suc i) x h = ap (λ l. y ∷ l) (set_past t i x (omega arith))
 
+-- Another element at a number, in a list and in what is read from each of its elements.
+pub map_set_at : {X Y : Type 0} (f : X → Y) (t : List X) (n : ℕ) (x y : X) → Some y ≡ entry_at t n → map f (set t (n - 1) x) ≡ set_at (map f t) n (f x)
+map_set_at f t zero x y e = absurd cc
+map_set_at f t (suc i) x y e = ap (λ k. map f (set t k x)) (omega arith) ∙ map-set f t i x
+
+-- What is read is the same where it is the same of the old element and the new.
+pub map_set_at_same : {X Y : Type 0} (f : X → Y) (t : List X) (n : ℕ) (x y : X) → Some y ≡ entry_at t n → f x ≡ f y → map f (set t (n - 1) x) ≡ map f t
+map_set_at_same f t zero x y e same = absurd cc
+map_set_at_same {X} f t (suc i) x y e same = ap (λ k. map f (set t k x)) (omega arith) ∙ go t i e
+  where
+    go : (t : List X) (i : ℕ) → Some y ≡ slice_get t i → map f (set t i x) ≡ map f t
+    go [] i e = refl
+    go (z ∷ t) zero e = cc
+    go (z ∷ t) (suc i) e = ap (λ l. f z ∷ l) (go t i e)
+
 -- Where there is no such number nothing changes.
-pub set_at_none : {X : Type 0} (t : List X) (n : ℕ) (x : X) → (n < 1) ⊎ (length t < n) → set_at t n x ≡ t
-set_at_none t zero x h = refl
-set_at_none t (suc i) x (inl h) = absurd (omega arith)
-set_at_none t (suc i) x (inr h) = set_past t i x (omega arith)
+pub set_at_missing : {X Y : Type 0} (f : X → Y) (t : List X) (n : ℕ) (x : Y) → None ≡ entry_at t n → map f t ≡ set_at (map f t) n x
+set_at_missing f t zero x e = refl
+set_at_missing f [] (suc i) x e = refl
+set_at_missing f (y ∷ t) (suc zero) x e = absurd cc
+set_at_missing f (y ∷ t) (suc (suc i)) x e = ap (λ l. f y ∷ l) (set_at_missing f t (suc i) x e)
 
 -- The first entries of a list with another element.
 pub take_set_at : {X : Type 0} (m : ℕ) (t : List X) (n : ℕ) (x : X) → take m (set_at t n x) ≡ set_at (take m t) n x
@@ -30,7 +43,7 @@ take_set_at m t (suc i) x =
       | inr h ↦ take-set-le m t i x h ∙ sym (set_past (take m t) i x (omega (arith, length-take m t)))
     ]
 
--- One more from the front is the same element; and in the end all are.
+-- One more from the front is the same element.
 pub emptied_more : {X : Type 0} (i : ℕ) (t : List X) (y : X) → i < length t → set (replicate i y ++ drop i t) i y ≡ replicate (i + 1) y ++ drop (i + 1) t
 emptied_more {X = X} i t y h = go i t h ∙ ap (λ k. replicate k y ++ drop k t) (sym (add-one i))
   where
@@ -39,16 +52,14 @@ emptied_more {X = X} i t y h = go i t h ∙ ap (λ k. replicate k y ++ drop k t)
     go zero (x ∷ t) h = refl
     go (suc i) (x ∷ t) h = ap (λ l. y ∷ l) (go i t (omega arith))
 
-pub emptied_all : {X : Type 0} (i : ℕ) (t : List X) (y : X) → length t ≤ i → replicate i y ++ drop i t ≡ replicate i y
-emptied_all i t y h = ap (λ l. replicate i y ++ l) (drop_all i t h) ∙ append-nil (replicate i y)
-
 -- ---- room
 
 -- Each of the lists has room for as many as all have.
-pub room_at : (n : ℕ) (cs : List ℕ) (i d : ℕ) → i < length cs → room_for n cs ≡ true → n ≤ get_or cs i d
-room_at n [] i d h r = absurd (omega arith)
-room_at n (c ∷ cs) zero d h r = leb-true n c (and_parts (leb n c) (room_for n cs) r).0
-room_at n (c ∷ cs) (suc i) d h r = room_at n cs i d (omega arith) (and_parts (leb n c) (room_for n cs) r).1
+pub room_at : {X : Type 0} (k : ℕ) (capacity : X → ℕ) (t : List X) (n : ℕ) (y : X) → Some y ≡ entry_at t n → room_for k (map capacity t) ≡ true → k ≤ capacity y
+room_at k capacity t zero y e r = absurd cc
+room_at k capacity [] (suc i) y e r = absurd cc
+room_at k capacity (x ∷ t) (suc zero) y e r = let same : y ≡ x = cc in rw same (leb-true k (capacity x) (and_parts (leb k (capacity x)) (room_for k (map capacity t)) r).0)
+room_at k capacity (x ∷ t) (suc (suc i)) y e r = room_at k capacity t (suc i) y e (and_parts (leb k (capacity x)) (room_for k (map capacity t)) r).1
 
 -- Room for more is room for fewer.
 pub room_fewer : (n k : ℕ) (cs : List ℕ) → k ≤ n → room_for n cs ≡ true → room_for k cs ≡ true
@@ -56,8 +67,3 @@ room_fewer n k [] h r = refl
 room_fewer n k (c ∷ cs) h r =
     let p = and_parts (leb n c) (room_for n cs) r in
     and_from (leb k c) (room_for k cs) (le-leb k c (omega (arith, leb-true n c p.0))) (room_fewer n k cs h p.1)
-
--- One list more with the room.
-pub room_push : (n : ℕ) (cs : List ℕ) (c : ℕ) → room_for n cs ≡ true → n ≤ c → room_for n (cs ++ c ∷ []) ≡ true
-room_push n [] c r h = and_from (leb n c) true (le-leb n c h) refl
-room_push n (x ∷ cs) c r h = let p = and_parts (leb n x) (room_for n cs) r in and_from (leb n x) (room_for n (cs ++ c ∷ [])) p.0 (room_push n cs c p.1 h)

@@ -1,11 +1,16 @@
 -- Tables: lists that are filled by numbers.
-use Rattle.std.specs.Prelude.{◌≡◌, ℕ, zero, suc, ◌⊎◌, List, [], ◌∷◌, length, Some, ◌≢◌, slice_index, slice_set}
+use Rattle.std.specs.Prelude.{◌≡◌, ℕ, zero, suc, ◌⊎◌, List, [], ◌∷◌, length, Some, None, Option, ◌≢◌, slice_index, slice_set}
 use Rattle.std.specs.List.{slice_get, AllByRecursion}
 
 -- A list with another element at a number, counted from 1; the same list where it has no such place.
 abbrev pub set_at : {X : Type 0} → List X → ℕ → X → List X
 set_at t zero x = t
 set_at t (suc i) x = slice_set t i x
+
+-- The element at a number, counted from 1, where there is such a place.
+abbrev pub entry_at : {X : Type 0} → List X → ℕ → Option X
+entry_at t zero = None
+entry_at t (suc i) = slice_get t i
 
 -- The first number of a record: the place or the agent that it is about.
 abbrev pub about : List ℕ → ℕ

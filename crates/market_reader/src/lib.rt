@@ -2,6 +2,5 @@
 #![tactic(auto)]
 
 mod lists;
-mod numbered;
 pub mod reader;
 pub mod record;

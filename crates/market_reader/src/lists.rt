@@ -1,35 +1,37 @@
 // Lists of agents or places by number, in room that was reserved beforehand.
-ghost use Rattle.std.specs.Prelude.{◌≡◌, ◌≤◌, true, [], map, length, replicate, IfOk, vec_items, vec_len, vec_capacity};
+ghost use Rattle.std.specs.Prelude.{◌≡◌, ◌-◌, ◌≤◌, true, [], map, length, replicate, IfOk, vec_items, vec_len, vec_capacity};
+ghost use Rattle.std.specs.Borrow.{sem};
+ghost use Rattle.std.specs.Option.{option_copied_mut};
 ghost use Rattle.spelling.specs.Views.{numbers_of};
 ghost use Rattle.market_reader.specs.Rooms.{room_for};
-ghost use Rattle.market_reader.specs.Tables.{set_at};
+ghost use Rattle.market_reader.specs.Tables.{set_at, entry_at};
+ghost use Rattle.std.specs.Vec.{vec_follows_get};
 
-use crate::numbered::Numbered;
+use market_file::numbered::{Numbered, gather};
 use spelling::words::Words;
-use std::alloc::{AllocError, Global};
+use std::alloc::{AllocError, Allocator, Global};
 
-/// Gathers what the words stand for.
-pub(crate) fn gather<T: Numbered>(list: &mut Vec<T>, words: Words<'_>)
-    requires { length (numbers_of words) ≤ vec_capacity list.old }
-    ensures items { list.new.items ≡ map T.Numbered.stands (numbers_of words.entry) }
-    ensures capacity { vec_capacity list.new ≡ vec_capacity list.old }
+/// The entry of a list with a number, counted from 1, where there is one.
+fn entry_at<T, A: Allocator>(list: &mut Vec<T, A>, number: u16) -> Option<&mut T>
+    ensures* writes_back { sem 𝓛 (vec_follows_get T.row A.row A.Allocator list.entry (number - 1) result) }
+    ensures value { option_copied_mut result ≡ entry_at list.old.items number }
 {
-    list.clear();
-    for number in words {
-        list.push_reserved(T::with_number(number));
-    }
+    list.get_mut(usize::from(number).checked_sub(1)?)
 }
 
-/// Gathers what the words stand for in the list with a number, counted from 1, where there is one.
-pub(crate) fn gather_at<T: Numbered>(lists: &mut Vec<Vec<T>>, number: u16, words: Words<'_>)
+/// Gathers what the words stand for in the list with a number, where there is one.
+pub(crate) fn gather_at<T: Numbered>(
+    lists: &mut Vec<Vec<T>>,
+    number: u16,
+    words: Words<'_>,
+)
     requires { room_for (length (numbers_of words)) (map vec_capacity lists.old.items) ≡ true }
     ensures items { map vec_items lists.new.items ≡ set_at (map vec_items lists.old.items) number (map T.Numbered.stands (numbers_of words.entry)) }
     ensures capacities { map vec_capacity lists.new.items ≡ map vec_capacity lists.old.items }
     ensures len { vec_len lists.new ≡ vec_len lists.old }
 {
-    let at = usize::from(number);
-    if 1 <= at && at <= lists.len() {
-        gather(&mut lists[at - 1], words);
+    if let Some(list) = entry_at(lists, number) {
+        gather(list, words);
     }
 }
 
@@ -39,8 +41,8 @@ pub(crate) fn clear_all<T: Drop>(lists: &mut Vec<Vec<T>>)
     ensures capacities { map vec_capacity lists.new.items ≡ map vec_capacity lists.old.items }
     ensures len { vec_len lists.new ≡ vec_len lists.old }
 {
-    for at in 0..lists.len() {
-        lists[at].clear();
+    for list in lists.iter_mut() {
+        list.clear();
     }
 }
 
@@ -60,23 +62,12 @@ pub(crate) fn rooms<T: Drop>(
     Ok(lists)
 }
 
-/// Puts a number at another, counted from 1, where there is such a place.
+/// Puts a value at a number, where there is such an entry.
 pub(crate) fn put_at(list: &mut Vec<u16>, number: u16, value: u16)
     ensures items { list.new.items ≡ set_at list.old.items number value }
     ensures capacity { vec_capacity list.new ≡ vec_capacity list.old }
 {
-    let at = usize::from(number);
-    if 1 <= at && at <= list.len() {
-        list[at - 1] = value;
+    if let Some(entry) = entry_at(list, number) {
+        *entry = value;
     }
-}
-
-/// Makes of a list so many zeros.
-pub(crate) fn fill_zeros(list: &mut Vec<u16>, count: u16)
-    requires { count ≤ vec_capacity list.old }
-    ensures items { list.new.items ≡ replicate count 0 }
-    ensures capacity { vec_capacity list.old ≤ vec_capacity list.new }
-{
-    list.clear();
-    let _ = list.resize(usize::from(count), 0);
 }

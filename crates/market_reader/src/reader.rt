@@ -1,7 +1,7 @@
 // The reader of market files.
-ghost use Rattle.std.specs.Prelude.{◌≡◌, ◌≤◌, length};
+ghost use Rattle.std.specs.Prelude.{◌≡◌, ◌≤◌, length, drop};
 ghost use Rattle.std.specs.List.{AllByRecursion};
-ghost use Rattle.spelling.specs.Views.{lines_of};
+ghost use Rattle.spelling.specs.Lines.{lines};
 ghost use Rattle.market_file.specs.Contents.{kinds_of};
 ghost use Rattle.market_file.specs.Files.{numbers_at};
 ghost use Rattle.market_file.specs.Ledgers.{known, blank};
@@ -19,20 +19,15 @@ use spelling::lines::Lines;
 use spelling::words::Words;
 
 /// Enters the lines of the sections, each as a record of the kind that the contents say.
-fn enter_all(market: &mut Market, contents: Contents, others: Lines<'_>)
+fn enter_all(market: &mut Market, contents: Contents, file: &[u8])
     requires nodes { length (held market.old).nodes ≤ 0 }
     requires tenants { length (held market.old).tenants ≤ 0 }
     requires kinds { length (kinds_of contents) ≤ 621 }
-    requires few { AllByRecursion (λ l. length (numbers_at l) ≤ 201) (lines_of others) }
-    ensures { held market.new ≡ after (held market.old) (entries_of (kinds_of contents) (lines_of others.entry)) }
+    requires few { AllByRecursion (λ l. length (numbers_at l) ≤ 201) (drop 2 (lines file.now)) }
+    ensures { held market.new ≡ after (held market.old) (entries_of (kinds_of contents) (drop 2 (lines file.now))) }
 {
-    let mut passed = 0;
-    for text in others {
-        let Some(kind) = contents.due(passed) else {
-            return;
-        };
+    for (kind, text) in contents.kinds().zip(Lines::new(file).skip(2)) {
         market.enter(kind, Words::after_letter(text));
-        passed += 1;
     }
 }
 
@@ -46,9 +41,6 @@ pub fn read_market(ledger: &mut Ledger, market: &mut Market, file: &[u8]) -> Res
 {
     let form = check_form(ledger, file)?;
     market.start(form);
-    let mut lines = Lines::new(file);
-    let _ = lines.next();
-    let _ = lines.next();
-    enter_all(market, form.contents, lines);
+    enter_all(market, form.contents, file);
     Ok(())
 }

@@ -1,8 +1,11 @@
 -- What a line names wrongly, and what that means. Assumes nothing.
-use Rattle.std.proofs.Common.{◌≡◌, ℕ, zero, suc, ◌+◌, Bool, true, false, cond, not, ◌&&◌, eqb, ◌⊎◌, List, [], ◌∷◌, get_or, drop, Some, None, Option, sym, refl, ap, ◌∙◌, inl, inr, arith}
+use Rattle.std.proofs.Common.{◌≡◌, ℕ, zero, suc, ◌+◌, Bool, true, false, cond, not, ◌&&◌, eqb, ◌⊎◌, List, [], ◌∷◌, get_or, drop, Some, None, Option, sym, refl, ap, ◌∙◌, inl, inr}
 use Rattle.std.proofs.lemmas.Bool.{cases_Bool, eqb-true, eq-eqb, or_parts, or_from, and_parts, and_from, not-false, not_from_true, both_ways}
-use Rattle.std.specs.List.{slice_get, AllByRecursion}
+use Rattle.std.specs.List.{slice_get, list_any, AllByRecursion}
 use Rattle.market.specs.declared.node.Node.{Node}
+use Rattle.market.specs.Data.{ParentRight, Unlike}
+use Rattle.market.specs.Distinct.{Distinct}
+use Rattle.market.specs.Nodes.{is_node, at_place, parent_fits}
 use Rattle.market_lines.specs.declared.kind.Kind.{Kind}
 use Rattle.market_lines.specs.declared.kind.Kind.TheVariants.{Market, Contents, Seats, Queue, Priorities, Heir, Tenant, Ranking}
 use Rattle.market_lines.specs.Kinds.{letter_of}
@@ -11,21 +14,21 @@ use Rattle.naming.specs.declared.fault.Name.{Name}
 use Rattle.naming.specs.declared.fault.NameFault.{NameFault}
 use Rattle.naming.specs.declared.fault.NameFault.TheVariants.{Parent, Twice}
 use Rattle.naming.specs.Faults.{twice_from, first_fault, name_fault}
-use Rattle.naming.specs.Laws.{Unnamed, Unlike, ParentRight, NamedOrRepeated, NamesLaw}
-use Rattle.naming.specs.Names.{is_name, named_before, is_node, node_before, at_place, parent_fits}
-use Rattle.naming.specs.Repeats.{any_of, repeat_in, Distinct, LeftmostRepeat}
+use Rattle.naming.specs.Laws.{Unnamed, NamedOrRepeated, NamesLaw}
+use Rattle.naming.specs.Names.{is_name, named_before, node_before}
+use Rattle.naming.specs.Repeats.{repeat_in, LeftmostRepeat}
 use Rattle.naming.proofs.Repeating.{repeats_exactly}
 
 -- ---- searches, as statements
 
 -- No element passes a test exactly when each fails it.
-none_of : {X : Type 0} (p : X → Bool) (P : X → Type 0) → ((x : X) → p x ≡ false → P x) → (xs : List X) → any_of p xs ≡ false → AllByRecursion P xs
+none_of : {X : Type 0} (p : X → Bool) (P : X → Type 0) → ((x : X) → p x ≡ false → P x) → (xs : List X) → list_any p xs ≡ false → AllByRecursion P xs
 none_of p P one [] e = tt
-none_of p P one (x ∷ xs) e = let q = or_parts (p x) (any_of p xs) e in (one x q.0, none_of p P one xs q.1)
+none_of p P one (x ∷ xs) e = let q = or_parts (p x) (list_any p xs) e in (one x q.0, none_of p P one xs q.1)
 
-of_none : {X : Type 0} (p : X → Bool) (P : X → Type 0) → ((x : X) → P x → p x ≡ false) → (xs : List X) → AllByRecursion P xs → any_of p xs ≡ false
+of_none : {X : Type 0} (p : X → Bool) (P : X → Type 0) → ((x : X) → P x → p x ≡ false) → (xs : List X) → AllByRecursion P xs → list_any p xs ≡ false
 of_none p P one [] a = refl
-of_none p P one (x ∷ xs) a = or_from (p x) (any_of p xs) (one x a.0) (of_none p P one xs a.1)
+of_none p P one (x ∷ xs) a = or_from (p x) (list_any p xs) (one x a.0) (of_none p P one xs a.1)
 
 unnamed : (names : List Name) (k : Kind) (x : ℕ) → named_before names k x ≡ false → Unnamed names k x
 unnamed names k x e = none_of (is_name k x) (λ a. a.kind ≡ k → a.number ≡ x → ⊥) (λ a f same number. both_ways (is_name k x a) f (named a same number)) names e
@@ -63,7 +66,7 @@ like_not nodes p r t u = of_none (is_node p r t) (λ a. a.place.number ≡ p →
         ]
 
 at_place_found : (o : Option Node) (p : ℕ) → at_place o p ≡ true → (a : Node) × (o ≡ Some a) × (a.place.number ≡ p)
-at_place_found None p e = let z : ◌≡◌ {A = ℕ} 0 1 = cc in absurd (omega arith)
+at_place_found None p e = absurd cc
 at_place_found (Some a) p e = (a, refl, eqb-true _ _ e)
 
 parent_right : (nodes : List Node) (p r t : ℕ) → parent_fits nodes p r t ≡ true → ParentRight nodes p r t
@@ -81,7 +84,7 @@ module _ (b : Bool) (x : NameFault) (rest : Option NameFault) (Right : Type 0) (
   step_none : cond b (Some x) rest ≡ None → Right × (rest ≡ None)
   step_none e =
       elim (cases_Bool b) [
-        | inl h ↦ let both : ◌≡◌ {A = Option NameFault} (Some x) None = sym (ap (λ t. cond t (Some x) rest) h) ∙ e in let z : ◌≡◌ {A = ℕ} 0 1 = cc in absurd (omega arith)
+        | inl h ↦ let both : ◌≡◌ {A = Option NameFault} (Some x) None = sym (ap (λ t. cond t (Some x) rest) h) ∙ e in absurd cc
         | inr h ↦ (right h, sym (ap (λ t. cond t (Some x) rest) h) ∙ e)
       ]
 
@@ -112,10 +115,10 @@ module _ (b : Bool) (x : NameFault) (rest : Option NameFault) (Right : Type 0) (
 
 twice_none : (n : ℕ) (o : Option ℕ) → twice_from n o ≡ None → o ≡ None
 twice_none n None e = refl
-twice_none n (Some i) e = let z : ◌≡◌ {A = ℕ} 0 1 = cc in absurd (omega arith)
+twice_none n (Some i) e = absurd cc
 
 twice_some : (n : ℕ) (o : Option ℕ) (f : NameFault) → twice_from n o ≡ Some f → (i : ℕ) × (f ≡ Twice (i + n)) × (o ≡ Some i)
-twice_some n None f e = let z : ◌≡◌ {A = ℕ} 0 1 = cc in absurd (omega arith)
+twice_some n None f e = absurd cc
 twice_some n (Some i) f e = let same : f ≡ Twice (i + n) = cc in (i, same, refl)
 
 repeat_none : (n : ℕ) (xs : List ℕ) → twice_from n (repeat_in xs) ≡ None → Distinct xs
@@ -133,7 +136,7 @@ some_repeat n xs f w = ap (twice_from n) ((repeats_exactly xs (repeat_in xs) ref
 -- ---- all kinds
 
 no_fault : (f : NameFault) → ◌≡◌ {A = Option NameFault} None (Some f) → ⊥
-no_fault f e = let z : ◌≡◌ {A = ℕ} 0 1 = cc in omega arith
+no_fault f e = cc
 
 -- The first word alone may be named before.
 first_only : (names : List Name) (k : Kind) (ns : List ℕ) (r : Option NameFault) → r ≡ first_fault names k ns None →

@@ -1,17 +1,9 @@
 -- Numbers that repeat. Assumes nothing.
-use Rattle.std.proofs.Common.{◌≡◌, ℕ, suc, ◌+◌, ◌<◌, Bool, true, false, cond, ◌||◌, eqb, List, [], ◌∷◌, ◌++◌, length, get_or, take, drop, Some, None, Option, sym, refl, ap, ◌∙◌, subst, inl, inr, append_assoc, append-nil, add-one, arith}
-use Rattle.std.proofs.lemmas.List.{at_drop_more, take_more}
+use Rattle.std.proofs.Common.{◌≡◌, ℕ, suc, ◌+◌, ◌<◌, ◌≤◌, false, cond, eqb, List, [], ◌∷◌, ◌++◌, length, get_or, take, drop, Some, None, Option, sym, refl, ap, ◌∙◌, subst, inl, inr, append_assoc, append-nil, add-one, arith}
+use Rattle.std.proofs.lemmas.List.{at_drop_more, at_drop_all, take_more}
 use Rattle.std.proofs.lemmas.Bool.{cases_Bool, eqb-false, ne_eqb, or_parts, or_from, both_ways}
-use Rattle.naming.specs.Repeats.{any_of, has, repeat_after, repeat_in, Absent, DistinctAfter, RepeatsExactly}
-
--- ---- a search from the left
-
--- The element at hand passes the test, or what is left decides.
-pub any_here : {X : Type 0} (p : X → Bool) (xs : List X) (i : ℕ) (d : X) → i < length xs → p (get_or xs i d) ≡ true → any_of p (drop i xs) ≡ true
-any_here p xs i d h e = at_drop_more (any_of p) xs i d h ∙ ap (λ t. t || any_of p (drop (i + 1) xs)) e
-
-pub any_more : {X : Type 0} (p : X → Bool) (xs : List X) (i : ℕ) (d : X) → i < length xs → p (get_or xs i d) ≡ false → any_of p (drop i xs) ≡ any_of p (drop (i + 1) xs)
-any_more p xs i d h e = at_drop_more (any_of p) xs i d h ∙ ap (λ t. t || any_of p (drop (i + 1) xs)) e
+use Rattle.market.specs.Distinct.{Absent, DistinctAfter}
+use Rattle.naming.specs.Repeats.{has, repeat_after, repeat_in, RepeatsExactly}
 
 -- ---- one turn
 
@@ -22,11 +14,9 @@ turn xs i h =
     ∙ ap (λ j. cond (has (get_or xs i 0) (take i xs)) (Some i) (repeat_after j (take i xs ++ get_or xs i 0 ∷ []) (drop (i + 1) xs))) (sym (add-one i))
     ∙ ap (λ seen. cond (has (get_or xs i 0) (take i xs)) (Some i) (repeat_after (i + 1) seen (drop (i + 1) xs))) (sym (take_more xs i 0 h))
 
-pub turn_here : (xs : List ℕ) (i : ℕ) → i < length xs → has (get_or xs i 0) (take i xs) ≡ true → repeat_after i (take i xs) (drop i xs) ≡ Some i
-turn_here xs i h e = turn xs i h ∙ ap (λ t. cond t (Some i) (repeat_after (i + 1) (take (i + 1) xs) (drop (i + 1) xs))) e
-
-pub turn_on : (xs : List ℕ) (i : ℕ) → i < length xs → has (get_or xs i 0) (take i xs) ≡ false → repeat_after i (take i xs) (drop i xs) ≡ repeat_after (i + 1) (take (i + 1) xs) (drop (i + 1) xs)
-turn_on xs i h e = turn xs i h ∙ ap (λ t. cond t (Some i) (repeat_after (i + 1) (take (i + 1) xs) (drop (i + 1) xs))) e
+-- After the last number.
+pub no_turn : (xs : List ℕ) (i : ℕ) → length xs ≤ i → repeat_after i (take i xs) (drop i xs) ≡ None
+no_turn xs i h = at_drop_all (repeat_after i (take i xs)) xs i h
 
 -- ---- what it means
 
@@ -42,7 +32,7 @@ none_after : (i : ℕ) (seen xs : List ℕ) → repeat_after i seen xs ≡ None 
 none_after i seen [] e = tt
 none_after i seen (x ∷ xs) e =
     elim (cases_Bool (has x seen)) [
-      | inl h ↦ let both : ◌≡◌ {A = Option ℕ} (Some i) None = sym (ap (λ t. cond t (Some i) (repeat_after (suc i) (seen ++ x ∷ []) xs)) h) ∙ e in let z : ◌≡◌ {A = ℕ} 0 1 = cc in absurd (omega arith)
+      | inl h ↦ let both : ◌≡◌ {A = Option ℕ} (Some i) None = sym (ap (λ t. cond t (Some i) (repeat_after (suc i) (seen ++ x ∷ []) xs)) h) ∙ e in absurd cc
       | inr h ↦ (absent x seen h, none_after (suc i) (seen ++ x ∷ []) xs (sym (ap (λ t. cond t (Some i) (repeat_after (suc i) (seen ++ x ∷ []) xs)) h) ∙ e))
     ]
 
@@ -62,7 +52,7 @@ record Found (seen xs : List ℕ) (k : ℕ) : Type 0 where
   repeats : Absent number (seen ++ before) → ⊥
 
 some_after : (i k : ℕ) (seen xs : List ℕ) → repeat_after i seen xs ≡ Some k → (j : ℕ) × (k ≡ i + j) × Found seen xs j
-some_after i k seen [] e = let z : ◌≡◌ {A = ℕ} 0 1 = cc in absurd (omega arith)
+some_after i k seen [] e = absurd cc
 some_after i k seen (x ∷ xs) e =
     elim (cases_Bool (has x seen)) [
       | inl h ↦

@@ -1,12 +1,13 @@
 -- What a line names wrongly, after the lines before it.
 use Rattle.std.specs.Prelude.{ℕ, ◌+◌, cond, not, List, drop, Some, None, Option, slice_index}
 use Rattle.market.specs.declared.node.Node.{Node}
+use Rattle.market.specs.Nodes.{parent_fits}
 use Rattle.market_lines.specs.declared.kind.Kind.{Kind}
 use Rattle.market_lines.specs.declared.kind.Kind.TheVariants.{Market, Contents, Seats, Queue, Priorities, Heir, Tenant, Ranking}
 use Rattle.naming.specs.declared.fault.Name.{Name}
 use Rattle.naming.specs.declared.fault.NameFault.{NameFault}
 use Rattle.naming.specs.declared.fault.NameFault.TheVariants.{Parent, Twice}
-use Rattle.naming.specs.Names.{named_before, node_before, parent_fits}
+use Rattle.naming.specs.Names.{named_before, node_before}
 use Rattle.naming.specs.Repeats.{repeat_in}
 
 -- A repeat at an index, as a fault of its word, where the word at index 0 has the place f.

@@ -1,26 +1,19 @@
 -- What it means that a line names nothing wrongly, in the words of the format.
-use Rattle.std.specs.Prelude.{◌≡◌, ℕ, zero, suc, ◌+◌, ◌⊎◌, List, drop, Some, None, Option, ◌≢◌, slice_index}
-use Rattle.std.specs.List.{slice_get, AllByRecursion}
+use Rattle.std.specs.Prelude.{◌≡◌, ℕ, ◌+◌, ◌⊎◌, List, drop, Some, None, Option, ◌≢◌, slice_index}
+use Rattle.std.specs.List.{AllByRecursion}
 use Rattle.market.specs.declared.node.Node.{Node}
+use Rattle.market.specs.Data.{ParentRight, Unlike}
+use Rattle.market.specs.Distinct.{Distinct}
 use Rattle.market_lines.specs.declared.kind.Kind.{Kind}
 use Rattle.market_lines.specs.declared.kind.Kind.TheVariants.{Market, Contents, Seats, Queue, Priorities, Heir, Tenant, Ranking}
 use Rattle.naming.specs.declared.fault.Name.{Name}
 use Rattle.naming.specs.declared.fault.NameFault.{NameFault}
 use Rattle.naming.specs.declared.fault.NameFault.TheVariants.{Parent, Twice}
-use Rattle.naming.specs.Repeats.{Distinct, LeftmostRepeat}
+use Rattle.naming.specs.Repeats.{LeftmostRepeat}
 
 -- No earlier line of kind k has the number x as its first word.
 abbrev pub Unnamed : List Name → Kind → ℕ → Type 0
 Unnamed names k x = AllByRecursion (λ a. a.kind ≡ k → a.number ≢ x) names
-
--- No earlier node has the place p, the parent r and the took number t.
-abbrev pub Unlike : List Node → ℕ → ℕ → ℕ → Type 0
-Unlike nodes p r t = AllByRecursion (λ a. a.place.number ≡ p → a.parent ≡ r → a.took ≢ t) nodes
-
--- The parent r is 0, with took number 0, or the number of an earlier node of the place p.
-abbrev pub ParentRight : List Node → ℕ → ℕ → ℕ → Type 0
-ParentRight nodes p zero t = t ≡ 0
-ParentRight nodes p (suc r) t = (a : Node) × (slice_get nodes r ≡ Some a) × (a.place.number ≡ p)
 
 -- A line of a kind names nothing wrongly after the lines before it: places of S, P and T lines and agents of R lines once in their section, agents of Q and P lines and places of R lines once in their line; the parent of an H line is right, and no earlier H line has its place, parent and took number.
 abbrev pub NamesRightly : List Name → List Node → Kind → List ℕ → Type 0

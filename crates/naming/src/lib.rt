@@ -2,6 +2,5 @@
 #![tactic(auto)]
 
 pub mod fault;
-mod names;
-mod nodes;
+pub mod noted;
 mod repeat;

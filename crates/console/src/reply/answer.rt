@@ -5,24 +5,20 @@ ghost use Rattle.console.specs.Replies.{replied};
 ghost use Rattle.console.specs.Verdicts.{Tells};
 
 use super::Reply;
-use crate::fault_text::put_fault;
-use crate::ok_text::put_ok;
+use crate::page::Page;
 use market_file::file::check_form;
 use market_file::ledger::Ledger;
 use market_lines::report::{Fault, Source};
 use std::alloc::{AllocError, Global};
-
-/// Enough for the longest answer: a fault's line of at most 80 bytes, a faulty line of at most 65,535, a line feed.
-const ROOM: usize = 65_700;
 
 impl Reply {
     /// Makes the room. This alone can fail, and only for want of memory.
     pub fn with_room(heap: Global) -> Result<Reply, AllocError>
         ensures { IfOk result (λ reply. replied reply ≡ []) }
     {
-        let text = Vec::with_capacity(heap, ROOM)?;
+        let page = Page::with_room(heap)?;
         let ledger = Ledger::with_room(heap)?;
-        Ok(Reply { text, ledger })
+        Ok(Reply { page, ledger })
     }
 
     /// Answers a market file: with its first fault, or with `ok` and its sizes.
@@ -30,12 +26,12 @@ impl Reply {
         ensures text { replied self.new ≡ verdict market.now }
         ensures law { Tells market.now (replied self.new) }
     {
-        self.text.clear();
+        self.page.clear();
         match check_form(&mut self.ledger, market) {
-            Ok(form) => put_ok(&mut self.text, form.sizes),
+            Ok(form) => self.page.put_sizes(form.sizes),
             Err(fault) => {
                 let source = Source::Market;
-                put_fault(&mut self.text, market, &[], &Fault { source, fault });
+                self.page.put_fault(market, &[], &Fault { source, fault });
             }
         }
     }
@@ -44,6 +40,6 @@ impl Reply {
     pub fn bytes(&self) -> &[u8]
         ensures { result.now ≡ replied self.now }
     {
-        self.text.as_slice()
+        self.page.bytes()
     }
 }

@@ -1,14 +1,17 @@
 // Making room for a ledger, and taking one line after another into it.
-ghost use Rattle.std.specs.Prelude.{◌≡◌, ◌<◌, ◌≤◌, length, IfOk, vec_capacity};
+ghost use Rattle.std.specs.Prelude.{◌≡◌, ◌+◌, ◌<◌, ◌≤◌, length, IfOk};
+ghost use Rattle.std.specs.Result.{result_err};
 ghost use Rattle.naming.specs.Faults.{name_fault};
-ghost use Rattle.spelling.specs.Views.{numbers_of};
+ghost use Rattle.market_lines.specs.Records.{seen};
 ghost use Rattle.market_file.specs.Ledgers.{known, blank, name_in, noted, afterwards};
 
 use super::Ledger;
 use crate::node::node_in;
+use crate::numbered::gather;
 use market_lines::kind::Kind;
-use naming::fault::{Name, NameFault, name_fault};
-use spelling::words::Words;
+use market_lines::line::Line;
+use naming::fault::{Name, NameFault};
+use naming::noted::Noted;
 use std::alloc::{AllocError, Global};
 
 /// More than the lines that the sections of a file can have.
@@ -17,25 +20,30 @@ const MOST_LINES: usize = 700;
 /// The most words of a line: a place and 200 agents.
 const MOST_WORDS: usize = 201;
 
-/// Gathers the numbers of words.
-fn gather(numbers: &mut Vec<u16>, words: Words<'_>)
-    requires { length (numbers_of words) ≤ vec_capacity numbers.old }
-    ensures items { numbers.new.items ≡ numbers_of words.entry }
-    ensures capacity { vec_capacity numbers.old ≤ vec_capacity numbers.new }
+/// The kind of a line.
+fn kind_of(line: Line<'_>) -> Kind
+    ensures { result ≡ (seen line.entry).kind }
 {
-    numbers.clear();
-    for number in words {
-        numbers.push_reserved(number);
+    match line {
+        Line::Market(..) => Kind::Market,
+        Line::Contents(..) => Kind::Contents,
+        Line::Seats(..) => Kind::Seats,
+        Line::Queue(..) => Kind::Queue,
+        Line::Priorities(..) => Kind::Priorities,
+        Line::Heir(..) => Kind::Heir,
+        Line::Tenant(..) => Kind::Tenant,
+        Line::Ranking(..) => Kind::Ranking,
     }
 }
 
 /// The name that the first word of a line says.
-fn name_in(kind: Kind, words: Words<'_>) -> Name
-    ensures { result ≡ name_in kind (numbers_of words.entry) }
+fn name_in(line: Line<'_>) -> Name
+    ensures { result ≡ name_in (seen line.entry).kind (seen line.entry).numbers }
 {
-    let mut words = words;
-    let number = words.take_next();
-    Name { kind, number }
+    Name {
+        kind: kind_of(line),
+        number: line.words().take_next(),
+    }
 }
 
 impl Ledger {
@@ -62,37 +70,33 @@ impl Ledger {
     }
 
     /// Notes a line that names nothing wrongly.
-    fn note(&mut self, kind: Kind, words: Words<'_>)
-        requires names { length (known self.old).names < 700 }
-        requires nodes { length (known self.old).nodes < 700 }
-        ensures { known self.new ≡ noted kind (numbers_of words.entry) (known self.old) }
+    fn note(&mut self, line: Line<'_>)
+        requires { length (known self.old).names + length (known self.old).nodes < 700 }
+        ensures { known self.new ≡ noted (seen line.entry).kind (seen line.entry).numbers (known self.old) }
     {
-        match kind {
-            Kind::Market | Kind::Contents | Kind::Queue => {}
-            Kind::Heir => self.nodes.push_reserved(node_in(words)),
-            Kind::Seats | Kind::Priorities | Kind::Tenant | Kind::Ranking => {
-                self.names.push_reserved(name_in(kind, words));
+        match line {
+            Line::Market(..) | Line::Contents(..) | Line::Queue(..) => {}
+            Line::Heir(_, words) => self.nodes.push_reserved(node_in(words)),
+            Line::Seats(..) | Line::Priorities(..) | Line::Tenant(..) | Line::Ranking(..) => {
+                self.names.push_reserved(name_in(line));
             }
         }
     }
 
-    /// What a line names wrongly, after the lines so far; where nothing, the line is noted.
-    pub(crate) fn take(&mut self, kind: Kind, words: Words<'_>) -> Option<NameFault>
-        requires names { length (known self.old).names < 700 }
-        requires nodes { length (known self.old).nodes < 700 }
-        requires few { length (numbers_of words) ≤ 201 }
-        ensures value { result ≡ name_fault (known self.old).names (known self.old).nodes kind (numbers_of words.entry) }
-        ensures after { known self.new ≡ afterwards result kind (numbers_of words.entry) (known self.old) }
+    /// Checks what a line names, after the lines so far; where nothing is wrong, the line is noted.
+    pub(crate) fn take(&mut self, line: Line<'_>) -> Result<(), NameFault>
+        requires room { length (known self.old).names + length (known self.old).nodes < 700 }
+        requires few { length (seen line).numbers ≤ 201 }
+        ensures value { result_err result ≡ name_fault (known self.old).names (known self.old).nodes (seen line.entry).kind (seen line.entry).numbers }
+        ensures after { known self.new ≡ afterwards (result_err result) (seen line.entry).kind (seen line.entry).numbers (known self.old) }
     {
-        gather(&mut self.numbers, words);
-        let names = self.names.as_slice();
-        let nodes = self.nodes.as_slice();
-        match name_fault(names, nodes, kind, self.numbers.as_slice()) {
-            Some(fault) => Some(fault),
-            None => {
-                self.note(kind, words);
-                None
-            }
-        }
+        gather(&mut self.numbers, line.words());
+        let noted = Noted {
+            names: self.names.as_slice(),
+            nodes: self.nodes.as_slice(),
+        };
+        noted.check(kind_of(line), self.numbers.as_slice())?;
+        self.note(line);
+        Ok(())
     }
 }

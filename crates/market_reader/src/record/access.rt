@@ -5,21 +5,16 @@ ghost use Rattle.market_reader.specs.Held.{held, orders_seen};
 use super::{Market, OrdersRef, Served};
 use market::node::Node;
 use market::place::Place;
+use market::sizes::Sizes;
 use market::tenant::Tenant;
 
 impl Market {
-    /// How many agents there are.
-    pub fn agents(&self) -> u16
-        ensures { result ≡ (held self.now).agents }
+    /// How many agents and places there are.
+    pub fn sizes(&self) -> Sizes
+        ensures agents { result.agents ≡ (held self.now).agents }
+        ensures places { result.places ≡ (held self.now).places }
     {
-        self.sizes.agents
-    }
-
-    /// How many places there are.
-    pub fn places(&self) -> u16
-        ensures { result ≡ (held self.now).places }
-    {
-        self.sizes.places
+        self.sizes
     }
 
     /// The capacities, by place.
@@ -33,10 +28,10 @@ impl Market {
     pub fn orders(&self) -> OrdersRef<'_>
         ensures { orders_seen result ≡ (held self.now).orders }
     {
-        let places = usize::from(self.places());
+        let places = usize::from(self.sizes.places);
         match self.served {
             Served::ByQueue => OrdersRef::Queue(self.queue.as_slice()),
-            Served::ByPriorities => OrdersRef::Priorities(&self.priorities[0..places]),
+            Served::ByPriorities => OrdersRef::Priorities(&self.priorities[..places]),
         }
     }
 
@@ -58,7 +53,7 @@ impl Market {
     pub fn rankings(&self) -> &[Vec<Place>]
         ensures { map vec_items result.now ≡ (held self.now).rankings }
     {
-        let agents = usize::from(self.agents());
-        &self.rankings[0..agents]
+        let agents = usize::from(self.sizes.agents);
+        &self.rankings[..agents]
     }
 }

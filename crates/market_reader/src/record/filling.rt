@@ -5,13 +5,14 @@ ghost use Rattle.market_reader.specs.Filling.{tenant_in, unfilled, entered};
 ghost use Rattle.market_reader.specs.Held.{held, nothing, served_by};
 
 use super::{Market, Served};
-use crate::lists::{clear_all, fill_zeros, gather, gather_at, put_at, rooms};
+use crate::lists::{clear_all, gather_at, put_at, rooms};
 use market::agent::Agent;
 use market::place::Place;
 use market::sizes::Sizes;
 use market::tenant::Tenant;
 use market_file::form::Form;
 use market_file::node::node_in;
+use market_file::numbered::gather;
 use market_lines::kind::Kind;
 use spelling::words::Words;
 use std::alloc::{AllocError, Global};
@@ -35,8 +36,8 @@ fn tenant_in(words: Words<'_>) -> Tenant
     let place = words.take_next();
     let agent = words.take_next();
     Tenant {
-        place: Place { number: place },
-        agent: Agent { number: agent },
+        place: Place::from(place),
+        agent: Agent::from(agent),
     }
 }
 
@@ -62,10 +63,7 @@ impl Market {
         let nodes = Vec::with_capacity(heap, MOST_LINES)?;
         let tenants = Vec::with_capacity(heap, MOST_LINES)?;
         let rankings = rooms(heap, MOST_AGENTS, MOST_WORDS)?;
-        let sizes = Sizes {
-            agents: 0,
-            places: 0,
-        };
+        let sizes = Sizes::default();
         let served = Served::ByQueue;
         Ok(Market {
             sizes,
@@ -86,7 +84,8 @@ impl Market {
     {
         self.sizes = form.sizes;
         self.served = served_by(form.contents.queues);
-        fill_zeros(&mut self.capacities, form.sizes.places);
+        self.capacities.clear();
+        let _ = self.capacities.resize(usize::from(form.sizes.places), 0);
         self.queue.clear();
         clear_all(&mut self.priorities);
         self.nodes.clear();

@@ -8,8 +8,6 @@ ghost use Rattle.console.specs.OwnersReplies.{owners_replied, last_market, ledge
 ghost use Rattle.console.specs.Verdicts.{TellsOwners};
 
 use super::OwnersReply;
-use crate::fault_text::put_fault;
-use crate::market_text::put_market;
 use crate::reply::Reply;
 use market_lines::report::{Fault, Source};
 use market_reader::reader::read_market;
@@ -39,12 +37,14 @@ impl OwnersReply {
         ensures ledger { ledger_of self.new ≡ blank }
         ensures law { TellsOwners market.now (owners_replied self.new) }
     {
-        self.reply.text.clear();
+        self.reply.page.clear();
         match read_market(&mut self.reply.ledger, &mut self.market, market) {
-            Ok(()) => put_market(&mut self.reply.text, &mut self.row, &self.market),
+            Ok(()) => self.reply.page.put_market(&mut self.row, &self.market),
             Err(fault) => {
                 let source = Source::Market;
-                put_fault(&mut self.reply.text, market, &[], &Fault { source, fault });
+                self.reply
+                    .page
+                    .put_fault(market, &[], &Fault { source, fault });
             }
         }
     }

@@ -1,29 +1,12 @@
-use Rattle.std.proofs.Common.{◌≡◌, ◌+◌, Bool, true, false, ◌||◌, eqb, get_or, drop, sym, refl, ap, ◌∙◌}
-use Rattle.std.proofs.lemmas.List.{at_drop_more, at_drop_all}
-use Rattle.naming.specs.Repeats.{has}
+use Rattle.std.proofs.Common.{◌≡◌, ℕ, Bool, false, ◌||◌, eqb, sym, refl, ap, ◌∙◌, rules, tests}
+use Rattle.std.proofs.lemmas.Fn.{fold_over, fronts, slice_gives}
+use Rattle.std.proofs.lemmas.List.Recursion.{or_push}
+use Rattle.std.specs.List.{list_any}
 use Rattle.naming.proofs.repeat.is_among.Goals as goal
 
-regroup : (a b c : Bool) → ((a || b) || c) ≡ (a || (b || c))
-regroup true b c = refl
-regroup false b c = refl
-
-or_nothing : (a : Bool) → a ≡ (a || false)
-or_nothing true = refl
-or_nothing false = refl
-
-pub loop-other-preserved : goal.loop-other-preserved
-loop-other-preserved c =
-    let x = c.args.number in
-    let xs = c.args.numbers.now in
-    let i = c.loop-other.other-index in
-    regroup c.loop-other.found (eqb (get_or xs i 0) x) (has x (drop (i + 1) xs))
-    ∙ ap (λ t. c.loop-other.found || t) (sym (at_drop_more (has x) xs i 0 c.loop-other-test.true))
-    ∙ c.loop-other.invariant
-
+-- After each number, what was found is whether one of the numbers so far is the one looked for.
 pub returns : goal.returns
 returns c =
-    let x = c.args.number in
-    let xs = c.args.numbers.now in
-    or_nothing c.loop-other.found
-    ∙ ap (λ t. c.loop-other.found || t) (sym (at_drop_all (has x) xs c.loop-other.other-index c.loop-other-test.false))
-    ∙ c.loop-other.invariant
+    let p : ℕ → Bool = λ y. eqb y c.args.number in
+    fold_over fronts _ _ (λ ys b. b ≡ list_any p ys) _ (λ ys a y b f h k. let s : b ≡ (a || p y.now) = search (rules, tests) in (s ∙ ap (λ t. t || p y.now) h ∙ sym (or_push (list_any p) p refl (λ _ _. refl) ys y.now), search rules)) c.iter.result _ false c.fold.result (slice_gives c.iter.result) refl c.fold.ensures.ran
+    ∙ ap (list_any p) c.iter.ensures.rest

@@ -1,4 +1,4 @@
-use Rattle.std.proofs.Common.{◌≡◌, ℕ, List, map, length, take, drop, vec_items, vec_capacity, sym, ap, ◌∙◌, arith}
+use Rattle.std.proofs.Common.{rules, ◌≡◌, ℕ, List, map, length, take, drop, vec_items, vec_capacity, sym, ap, ◌∙◌, arith}
 use Rattle.std.proofs.lemmas.List.{length-drop}
 use Rattle.spelling.specs.Views.{numbers_of}
 use Rattle.market_reader.specs.Filling.{ranking_in, agents_in, places_in, with_orders, with_rankings, entered}
@@ -11,23 +11,13 @@ use Rattle.market_reader.proofs.record.Market.enter.Goals as goal
 
 pub gather_at-requires : goal.gather_at-requires
 gather_at-requires c =
-    room_fewer 201 _ (map vec_capacity (vec_items c.args.self.now.priorities)) (omega (arith, c.requires.few, ap length c.take_next-about.ensures.rest, length-drop 1 (numbers_of c.args.words))) c.args.self.now.orders_room
+    let room = room_fewer 201 (length (numbers_of c.take_next-about.new.self)) (map vec_capacity (vec_items c.args.self.now.priorities)) (omega (arith, c.requires.few, ap length c.take_next-about.ensures.rest, length-drop 1 (numbers_of c.args.words))) c.args.self.now.orders_room in
+    search rules
 
 pub gather_at-requires-in-Ranking : goal.gather_at-requires-in-Ranking
 gather_at-requires-in-Ranking c =
-    room_fewer 201 _ (map vec_capacity (vec_items c.args.self.now.rankings)) (omega (arith, c.requires.few, ap length c.take_next-about.ensures.rest, length-drop 1 (numbers_of c.args.words))) c.args.self.now.rankings_room
-
-pub invariant_of-self-in-Priorities-clause-places_room : goal.invariant_of-self-in-Priorities-clause-places_room
-invariant_of-self-in-Priorities-clause-places_room c = c.gather_at.ensures.len ∙ c.args.self.now.places_room
-
-pub invariant_of-self-in-Priorities-clause-orders_room : goal.invariant_of-self-in-Priorities-clause-orders_room
-invariant_of-self-in-Priorities-clause-orders_room c = ap (room_for 201) c.gather_at.ensures.capacities ∙ c.args.self.now.orders_room
-
-pub invariant_of-self-in-Ranking-clause-agents_room : goal.invariant_of-self-in-Ranking-clause-agents_room
-invariant_of-self-in-Ranking-clause-agents_room c = c.gather_at-in-Ranking.ensures.len ∙ c.args.self.now.agents_room
-
-pub invariant_of-self-in-Ranking-clause-rankings_room : goal.invariant_of-self-in-Ranking-clause-rankings_room
-invariant_of-self-in-Ranking-clause-rankings_room c = ap (room_for 201) c.gather_at-in-Ranking.ensures.capacities ∙ c.args.self.now.rankings_room
+    let room = room_fewer 201 (length (numbers_of c.take_next-about.new.self)) (map vec_capacity (vec_items c.args.self.now.rankings)) (omega (arith, c.requires.few, ap length c.take_next-about.ensures.rest, length-drop 1 (numbers_of c.args.words))) c.args.self.now.rankings_room in
+    search rules
 
 -- The first word and the others.
 parted : {X : Type 0} (t : List X) (value : List ℕ → X) (n : ℕ) (rest ns : List ℕ) → n ≡ about ns → rest ≡ drop 1 ns → set_at t n (value rest) ≡ set_at t (about ns) (value (drop 1 ns))
