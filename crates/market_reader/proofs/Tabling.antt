@@ -4,7 +4,7 @@ use lib.Seq.{map-set, map-set_same, take-set-lt, take-set-le}
 use Rattle.std.proofs.lemmas.Grind.{common_steps}
 use Rattle.std.proofs.lemmas.Option.{gets}
 use Rattle.std.specs.List.{slice_get}
-use Rattle.std.proofs.lemmas.List.{take-map, length-take}
+use Rattle.std.proofs.lemmas.List.{length-map, length-take, take-map}
 use Rattle.std.proofs.lemmas.Bool.{and_parts, and_from, le-leb, leb-true, cases_lt}
 use Rattle.market_reader.specs.Rooms.{room_for}
 use Rattle.market_reader.specs.Tables.{set_at, entry_at}
@@ -63,3 +63,9 @@ room_fewer n k (c ∷ cs) h r = grind (arith, common_steps, room_fewer n k cs h)
 
 -- The first of what is read from the elements of a list.
 pub ruleset first_read = (take-map)
+
+-- Another entry in a list of lists.
+pub ruleset another_entry = (map_set_at, map_set_at_same, set_at_missing, room_at)
+
+-- One list more is empty.
+pub ruleset emptied = (map-set, map-set_same, emptied_more, length-map)
