@@ -38,7 +38,7 @@ impl Page {
         requires { length self.old + 48 * (R.Rule.terms rule.now).places ≤ ROOM }
         ensures { self.new ≡ self.old ++ owners_text (R.Rule.terms rule.now) row.now }
     {
-        for number in 1..=rule.places() {
+        for number in 1..=rule.sizes().places {
             let owner = rule.owner(row, Place { number });
             self.put_pair(b"owner", number, owner.number);
         }
