@@ -4,7 +4,7 @@ use Rattle.std.proofs.lemmas.List.Elements.{All-get_or, All-from_get_or}
 use Rattle.std.proofs.lemmas.List.Folds.{list_any_at}
 use Rattle.std.proofs.lemmas.List.Sums.{AllPass-from_list_all, list_all-from_AllPass}
 use Rattle.std.proofs.lemmas.List.{get_or_past}
-use Rattle.std.proofs.lemmas.Bool.{cases_Bool, cases_lt, and_parts, and_from, eqb-true, eq-eqb, both_ways}
+use Rattle.std.proofs.lemmas.Bool.{cases_Bool, cases_lt, and_parts, and_from, eqb-true, eq-eqb}
 use Rattle.std.specs.List.{AllPass, list_all, list_any}
 use Rattle.market.specs.declared.agent.Agent.{Agent}
 use Rattle.market.specs.declared.place.Place.{Place}
@@ -75,17 +75,6 @@ module _ (n m : ℕ) (A : Row) (p : Place) where
   question_fits_true : QuestionRight n m A p → question_fits n m A p ≡ true
   question_fits_true q =
       and_from _ _ (and_from _ _ (and_from _ _ (eq-eqb (length A) n q.row.size) (row_fits n m A q.row)) (anybody A q.waiting.0 q.waiting.1)) (place_fits_true m p q.place)
-
--- The answer by a test that was made with the sizes that a rule tells.
-module _ (T : Terms) (A : Row) (p : Place) (n m : ℕ) (en : n ≡ T.agents) (em : m ≡ T.places) where
-  tested : (t : Bool) → t ≡ question_fits n m A p → cond t (Ok (T.owner A p)) (Err Question) ≡ owner_answer T A p
-  tested t e = ap (λ b. cond b (Ok (T.owner A p)) (Err Question)) (e ∙ ap (λ x. question_fits x m A p) en ∙ ap (λ x. question_fits T.agents x A p) em)
-
-  pub asked : (a : Agent) → a ≡ T.owner A p → true ≡ question_fits n m A p → Ok a ≡ owner_answer T A p
-  asked a here e = ap Ok here ∙ tested true e
-
-  pub unasked : false ≡ question_fits n m A p → Err Question ≡ owner_answer T A p
-  unasked e = tested false e
 
 -- The answer to a question, as its law has it.
 module _ (T : Terms) (A : Row) (p : Place) (r : Result Agent Refusal) (e : r ≡ owner_answer T A p) where

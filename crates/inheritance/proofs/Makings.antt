@@ -1,5 +1,5 @@
 -- Making a rule: what the tests of sizes and data mean. Assumes nothing.
-use Rattle.std.proofs.Common.{◌≡◌, ℕ, Bool, true, ◌&&◌, leb, Ok, sym, refl, ap, ◌∙◌}
+use Rattle.std.proofs.Common.{◌≡◌, ℕ, Bool, true, ◌&&◌, leb, Ok, refl}
 use Rattle.std.proofs.lemmas.Bool.{and_parts, and_from, leb-true, le-leb}
 use Rattle.inheritance.specs.Making.{SizesRight, sizes_fit, MadeExactly, OrderedRight}
 
@@ -21,10 +21,6 @@ module _ (n m : ℕ) (fits : Bool) (Right : Type 0) where
 
   pub ordered_fits : (Right → fits ≡ true) → OrderedRight n m Right → (sizes_fit n m && fits) ≡ true
   ordered_fits passes r = and_from _ _ (sizes_fit_true n m r.sizes) (passes r.all)
-
--- A test that was made with the sizes that a rule tells.
-pub sized : (fits : ℕ → ℕ → Bool) (n m k l : ℕ) (t : Bool) → n ≡ k → m ≡ l → t ≡ fits n m → fits k l ≡ t
-sized fits n m k l t a b e = sym (e ∙ ap (λ x. fits x m) a ∙ ap (fits k) b)
 
 -- A rule that is made from right data.
 pub made_right : {X : Type 0} {Right : Type 0} → Right → (x : X) → MadeExactly Right (Ok x)

@@ -1,7 +1,7 @@
 // Orders: which order of all agents decides for each place.
 ghost use Rattle.std.specs.Prelude.{◌≡◌, ℕ, Bool, List};
-ghost use Rattle.market.specs.declared.agent.Agent.{Agent as AgentData};
-ghost use Rattle.market.specs.declared.place.Place.{Place as PlaceData};
+ghost use Rattle.market.specs.declared.agent.Agent.{Agent};
+ghost use Rattle.market.specs.declared.place.Place.{Place};
 ghost use Rattle.inheritance.specs.Laws.{OrdersLaws};
 
 use market::agent::Agent;
@@ -10,10 +10,10 @@ use market::sizes::Sizes;
 
 /// Orders of all agents, in one list or in many.
 pub trait Orders {
-    /// What a rule by the orders is made of.
+    /// What rules by such orders are made of.
     ghost Made: { Type 0 };
 
-    /// The same, of so many agents and places.
+    /// What the rule of so many agents and places by the orders is made of.
     ghost made: { ℕ → ℕ → Self → Made };
 
     /// The orders are right for so many agents and places, as a test.
@@ -23,7 +23,7 @@ pub trait Orders {
     ghost Right: { ℕ → ℕ → Self → Type 0 };
 
     /// The order for a place.
-    ghost order: { Self → PlaceData → List AgentData };
+    ghost order: { Self → Place → List Agent };
 
     /// The test and the words agree, and right orders have one of all agents for each place.
     ghost laws: { OrdersLaws fits Right order };

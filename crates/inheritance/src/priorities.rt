@@ -25,15 +25,13 @@ impl<'a> Orders for &'a [Vec<Agent>] {
 
     ghost order = { λ o. order_for (map vec_items o.now) };
 
-    ghost laws = {
-        record {
-          test = record {
-            right = λ n m o. orders_right n m (map vec_items o.now);
-            passes = λ n m o. orders_fit_true n m (map vec_items o.now);
-          };
-          each = λ n m o. order_of_place n m (map vec_items o.now);
-        }
-    };
+    ghost laws = { record {
+      test = record {
+        right = λ n m o. orders_right n m (map vec_items o.now);
+        passes = λ n m o. orders_fit_true n m (map vec_items o.now);
+      };
+      each = λ n m o. order_of_place n m (map vec_items o.now);
+    } };
 
     fn are_right(&self, sizes: Sizes) -> bool {
         are_orders(sizes, self)

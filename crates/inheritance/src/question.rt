@@ -24,8 +24,7 @@ fn standing_fits(places: u16, standing: Standing) -> bool
 fn row_fits(places: u16, row: &[Standing]) -> bool
     ensures { result ≡ list_all (standing_fits places) row.now }
 {
-    row.iter()
-        .all(|standing| standing_fits(places, *standing))
+    row.iter().all(|standing| standing_fits(places, *standing))
 }
 
 /// Whether somebody waits in a row.

@@ -25,12 +25,10 @@ impl<'a> Orders for &'a [Agent] {
 
     ghost order = { λ o p. o.now };
 
-    ghost laws = {
-        record {
-          test = record { right = λ n m o. order_right n o.now; passes = λ n m o. order_fits n o.now };
-          each = λ n m o right p known. right;
-        }
-    };
+    ghost laws = { record {
+      test = record { right = λ n m o. order_right n o.now; passes = λ n m o. order_fits n o.now };
+      each = λ n m o right p known. right;
+    } };
 
     fn are_right(&self, sizes: Sizes) -> bool {
         is_order(sizes.agents, self)

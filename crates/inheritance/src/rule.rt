@@ -30,7 +30,7 @@ pub trait Rule {
         ensures { result ≡ (terms self.now).owner row.now place };
 
     /// The owner of a place in a row, where the question is proper.
-    final fn owner_of(&self, row: &[Standing], place: Place) -> Result<Agent, Refusal>
+    fn owner_of(&self, row: &[Standing], place: Place) -> Result<Agent, Refusal>
         ensures value { result ≡ owner_answer (terms self.now) row.now place }
         ensures law { QuestionLaw (terms self.now) row.now place result }
     {

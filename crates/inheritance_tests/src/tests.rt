@@ -130,7 +130,10 @@ fn most_agents(rt: HostRuntime) -> Result<(), Fail> {
     }
     assert_eq!(rt; refused(Queue::new(sizes(200, 1), order.as_slice())), None);
     order.push(Agent::from(201))?;
-    assert_eq!(rt; refused(Queue::new(sizes(201, 1), order.as_slice())), Some(22));
+    assert_eq!(rt;
+        refused(Queue::new(sizes(201, 1), order.as_slice())),
+        Some(22)
+    );
     Ok(())
 }
 

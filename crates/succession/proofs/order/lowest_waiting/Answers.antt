@@ -21,7 +21,7 @@ returns c =
     let long : r.0.len ≤ n = omega (arith, e.0.0, m.2.1) in
     let items : r.0.items ≡ map numbered m.0.items = m.2.3 numbered (search rules) in
     let at : (k : ℕ) → k < r.0.len → r.0.at k ≡ Some (numbered (1 + k)) = λ k h.
-            at-is r.0 k ∙ ap (λ l. slice_get l k) items ∙ slice_get-map numbered m.0.items k
-            ∙ ap (option_map numbered) (sym (at-is m.0 k) ∙ sym (option_map_id (m.0.at k)) ∙ e.0.3 k (omega arith) ∙ ap (λ a. Some (a + k)) first)
+    at-is r.0 k ∙ ap (λ l. slice_get l k) items ∙ slice_get-map numbered m.0.items k
+    ∙ ap (option_map numbered) (sym (at-is m.0 k) ∙ sym (option_map_id (m.0.at k)) ∙ e.0.3 k (omega arith) ∙ ap (λ a. Some (a + k)) first)
     in
     lowest_found A n r.0.len r.0.at long at c.find.result (search (rules, r.2))
