@@ -34,6 +34,7 @@ impl Page {
     }
 
     /// Puts the owner of each place in a row.
+    #[tactic(auto, using(crate::proofs::Owners::owner_more))]
     fn put_owners<R: Rule>(&mut self, rule: &R, row: &[Standing])
         requires { length self.old + 48 * (R.Rule.terms rule.now).places ≤ ROOM }
         ensures { self.new ≡ self.old ++ owners_text (R.Rule.terms rule.now) row.now }

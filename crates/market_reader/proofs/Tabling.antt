@@ -1,11 +1,10 @@
 -- Lists filled by numbers. Assumes nothing.
-use Rattle.std.proofs.Common.{◌≡◌, ℕ, zero, suc, ◌+◌, ◌-◌, ◌<◌, ◌≤◌, true, leb, ◌⊎◌, List, [], ◌∷◌, ◌++◌, Some, None, map, length, take, drop, set, replicate, sym, refl, ap, ◌∙◌, inl, inr, append-nil, add-one, arith}
+use Rattle.std.proofs.Common.{◌≡◌, ℕ, zero, suc, ◌+◌, ◌-◌, ◌<◌, ◌≤◌, true, leb, List, [], ◌∷◌, ◌++◌, Some, None, map, length, take, drop, set, replicate, sym, refl, ap, ◌∙◌, inl, inr, add-one, arith}
 use lib.Seq.{map-set, map-set_same, take-set-lt, take-set-le}
 use Rattle.std.proofs.lemmas.Grind.{common_steps}
 use Rattle.std.proofs.lemmas.Option.{gets}
-use Rattle.std.specs.List.{slice_get}
 use Rattle.std.proofs.lemmas.List.{length-map, length-take, take-map}
-use Rattle.std.proofs.lemmas.Bool.{and_parts, and_from, le-leb, leb-true, cases_lt}
+use Rattle.std.proofs.lemmas.Bool.{and_parts, leb-true, cases_lt}
 use Rattle.market_reader.specs.Rooms.{room_for}
 use Rattle.market_reader.specs.Tables.{set_at, entry_at}
 
