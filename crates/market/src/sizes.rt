@@ -1,5 +1,11 @@
 // Sizes: how many agents and places there are.
 
+/// The most agents of a market.
+pub const MOST_AGENTS: u16 = 200;
+
+/// The most places of a market.
+pub const MOST_PLACES: u16 = 40;
+
 /// How many agents and places there are.
 #[derive(Clone, Copy, Debug, PartialEq, Eq, Default)]
 pub struct Sizes {

@@ -8,7 +8,7 @@ ghost use Rattle.market_file.specs.Bounds.{least_words, most_words, lowest, high
 ghost use Rattle.market_file.specs.Files.{placed};
 ghost use Rattle.market_file.specs.FormedLines.{ranged, fitting, line_formed, LineByForm};
 
-use market::sizes::Sizes;
+use market::sizes::{MOST_AGENTS, MOST_PLACES, Sizes};
 use market_lines::fault::{At, LineFault};
 use market_lines::kind::Kind;
 use market_lines::line::Line;
@@ -50,8 +50,8 @@ impl Due {
     {
         let Sizes { agents, places } = self.sizes;
         match (self.kind, place) {
-            (Kind::Market, 1) => 1..=200,
-            (Kind::Market, _) => 1..=40,
+            (Kind::Market, 1) => 1..=MOST_AGENTS,
+            (Kind::Market, _) => 1..=MOST_PLACES,
             (Kind::Contents, _) => 0..=65_535,
             (Kind::Seats, 1) => 1..=places,
             (Kind::Seats, _) => 1..=200,

@@ -7,6 +7,12 @@ use crate::kinds::Kinds;
 use market::sizes::Sizes;
 use market_lines::kind::Kind;
 
+/// More than the lines that the sections of a file can have.
+pub const MOST_LINES: usize = 700;
+
+/// The most words of a line: a place and the most agents.
+pub const MOST_WORDS: usize = 201;
+
 /// How many lines each section has.
 #[derive(Clone, Copy, Debug, PartialEq, Eq)]
 pub struct Contents {

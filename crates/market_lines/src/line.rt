@@ -53,6 +53,22 @@ impl<'a> Line<'a> {
         Ok(Line::new(due, text, words))
     }
 
+    /// The kind of the line.
+    pub fn kind(&self) -> Kind
+        ensures { result ≡ (seen self.now).kind }
+    {
+        match self {
+            Line::Market(..) => Kind::Market,
+            Line::Contents(..) => Kind::Contents,
+            Line::Seats(..) => Kind::Seats,
+            Line::Queue(..) => Kind::Queue,
+            Line::Priorities(..) => Kind::Priorities,
+            Line::Heir(..) => Kind::Heir,
+            Line::Tenant(..) => Kind::Tenant,
+            Line::Ranking(..) => Kind::Ranking,
+        }
+    }
+
     /// The words of the line.
     pub fn words(&self) -> Words<'a>
         ensures { numbers_of result ≡ (seen self.now).numbers }

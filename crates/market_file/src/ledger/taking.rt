@@ -1,47 +1,25 @@
 // Making room for a ledger, and taking one line after another into it.
-ghost use Rattle.std.specs.Prelude.{◌≡◌, ◌+◌, ◌<◌, ◌≤◌, length, IfOk};
+ghost use Rattle.std.specs.Prelude.{◌≡◌, ◌<◌, ◌≤◌, length, IfOk};
 ghost use Rattle.std.specs.Result.{result_err};
 ghost use Rattle.naming.specs.Faults.{name_fault};
 ghost use Rattle.market_lines.specs.Records.{seen};
 ghost use Rattle.market_file.specs.Ledgers.{known, blank, name_in, noted, afterwards};
 
 use super::Ledger;
+use crate::form::{MOST_LINES, MOST_WORDS};
 use crate::node::node_in;
 use crate::numbered::gather;
-use market_lines::kind::Kind;
 use market_lines::line::Line;
 use naming::fault::{Name, NameFault};
 use naming::noted::Noted;
 use std::alloc::{AllocError, Global};
-
-/// More than the lines that the sections of a file can have.
-const MOST_LINES: usize = 700;
-
-/// The most words of a line: a place and 200 agents.
-const MOST_WORDS: usize = 201;
-
-/// The kind of a line.
-fn kind_of(line: Line<'_>) -> Kind
-    ensures { result ≡ (seen line.entry).kind }
-{
-    match line {
-        Line::Market(..) => Kind::Market,
-        Line::Contents(..) => Kind::Contents,
-        Line::Seats(..) => Kind::Seats,
-        Line::Queue(..) => Kind::Queue,
-        Line::Priorities(..) => Kind::Priorities,
-        Line::Heir(..) => Kind::Heir,
-        Line::Tenant(..) => Kind::Tenant,
-        Line::Ranking(..) => Kind::Ranking,
-    }
-}
 
 /// The name that the first word of a line says.
 fn name_in(line: Line<'_>) -> Name
     ensures { result ≡ name_in (seen line.entry).kind (seen line.entry).numbers }
 {
     Name {
-        kind: kind_of(line),
+        kind: line.kind(),
         number: line.words().take_next(),
     }
 }
@@ -71,7 +49,8 @@ impl Ledger {
 
     /// Notes a line that names nothing wrongly.
     fn note(&mut self, line: Line<'_>)
-        requires { length (known self.old).names + length (known self.old).nodes < 700 }
+        requires names { length (known self.old).names < 700 }
+        requires nodes { length (known self.old).nodes < 700 }
         ensures { known self.new ≡ noted (seen line.entry).kind (seen line.entry).numbers (known self.old) }
     {
         match line {
@@ -85,7 +64,8 @@ impl Ledger {
 
     /// Checks what a line names, after the lines so far; where nothing is wrong, the line is noted.
     pub(crate) fn take(&mut self, line: Line<'_>) -> Result<(), NameFault>
-        requires room { length (known self.old).names + length (known self.old).nodes < 700 }
+        requires names { length (known self.old).names < 700 }
+        requires nodes { length (known self.old).nodes < 700 }
         requires few { length (seen line).numbers ≤ 201 }
         ensures value { result_err result ≡ name_fault (known self.old).names (known self.old).nodes (seen line.entry).kind (seen line.entry).numbers }
         ensures after { known self.new ≡ afterwards (result_err result) (seen line.entry).kind (seen line.entry).numbers (known self.old) }
@@ -95,7 +75,7 @@ impl Ledger {
             names: self.names.as_slice(),
             nodes: self.nodes.as_slice(),
         };
-        noted.check(kind_of(line), self.numbers.as_slice())?;
+        noted.check(line.kind(), self.numbers.as_slice())?;
         self.note(line);
         Ok(())
     }
