@@ -1,5 +1,5 @@
 -- What the verdict on a market file tells, and that it fits its room. Assumes nothing.
-use Rattle.std.proofs.Common.{◌≡◌, ℕ, zero, suc, ◌≤◌, true, false, cond, eqb, List, [], ◌∷◌, ◌++◌, ◌⊎◌, length, Err, codes, decimal, unwrap_or, sym, refl, ap, ◌∙◌, subst, inl, inr, arith}
+use Rattle.std.proofs.Common.{◌≡◌, ℕ, zero, suc, ◌≤◌, true, false, cond, eqb, List, [], ◌∷◌, ◌++◌, ◌⊎◌, length, Ok, Err, codes, decimal, unwrap_or, sym, refl, ap, ◌∙◌, subst, inl, inr, arith}
 use Rattle.std.proofs.lemmas.Fmt.{decimal_digit}
 use Rattle.std.proofs.ByRecursion.{All-weaker}
 use Rattle.std.specs.List.{slice_get, AllByRecursion}
@@ -13,7 +13,8 @@ use Rattle.market_lines.specs.Reports.{line_or, faulty_line}
 use Rattle.market_file.specs.Files.{file_form}
 use Rattle.market_file.specs.Keeping.{FormLaw, BrokenForm, Sized}
 use Rattle.market_file.proofs.Lawful.{form_law}
-use Rattle.market_reader.specs.Keeping.{MarketLaw}
+use Rattle.market_reader.specs.Held.{Held}
+use Rattle.market_reader.specs.Keeping.{MarketLaw, SoundMarket}
 use Rattle.market_reader.specs.Markets.{market_read}
 use Rattle.market_reader.proofs.Lawful.{market_law}
 use Rattle.console.specs.Printed.{verdict_of, verdict, owners_verdict_of, owners_verdict}
@@ -90,3 +91,12 @@ tells_owners market text e =
       kept = λ h k. e ∙ ap (owners_verdict_of market) (known.complete h k);
       broken = λ x s b. e ∙ ap (owners_verdict_of market) (known.named x s b);
     }
+
+-- A market that was read is sound.
+pub sound_read : (market : List ℕ) (h : Held) → MarketLaw market (Ok h) → SoundMarket h
+sound_read market h law = law.right h (law.sound h refl)
+
+-- What the two answers rest on.
+pub ruleset judged = (fault_fits, tells)
+
+pub ruleset owners_judged = (owners_fault_fits, sound_read)

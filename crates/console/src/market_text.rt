@@ -34,11 +34,12 @@ impl Page {
     }
 
     /// Puts the owner of each place in a row.
+    #[tactic(auto, using(crate::proofs::Owners::owner_more))]
     fn put_owners<R: Rule>(&mut self, rule: &R, row: &[Standing])
         requires { length self.old + 48 * (R.Rule.terms rule.now).places ≤ ROOM }
         ensures { self.new ≡ self.old ++ owners_text (R.Rule.terms rule.now) row.now }
     {
-        for number in 1..=rule.places() {
+        for number in 1..=rule.sizes().places {
             let owner = rule.owner(row, Place { number });
             self.put_pair(b"owner", number, owner.number);
         }

@@ -250,20 +250,11 @@ fn sizes(rt: HostRuntime) -> Result<(), Fail> {
     let mut reply = Reply::with_room(rt.alloc())?;
     let mut file = Vec::new(rt.alloc());
     file.extend_from_slice(b"M 1 1\n")?;
-    for _ in 0..65_529 {
-        file.push(b'\n')?;
-    }
-    assert!(rt; file.len() == 65_535);
+    file.resize(65_535, b'\n')?;
     expect(&rt, &mut reply, file.as_slice(), b"E m word 1 2 0\n\n");
     file.push(b'\n')?;
     expect(&rt, &mut reply, file.as_slice(), b"E m market 8 0 0\n\n");
     Ok(())
-}
-
-/// The answer to a file, with the owners, is a text.
-fn expect_owners(rt: &impl Abort, reply: &mut OwnersReply, file: &[u8], text: &[u8]) {
-    reply.answer(file);
-    assert!(rt; reply.bytes() == text);
 }
 
 #[test]
@@ -309,7 +300,8 @@ fn owners_while_everybody_waits(rt: HostRuntime) -> Result<(), Fail> {
     ];
     let mut reply = OwnersReply::with_room(rt.alloc())?;
     for (file, text) in cases {
-        expect_owners(&rt, &mut reply, file, text);
+        reply.answer(file);
+        assert!(rt; reply.bytes() == text);
     }
     Ok(())
 }

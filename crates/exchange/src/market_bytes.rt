@@ -12,15 +12,16 @@ pub(crate) const MOST_READ: usize = 65_536;
 fn fill(file: &mut File, room: &mut [u8]) -> io::Result<usize>
     ensures { IfOk result (λ n. n ≤ length room.old) }
 {
-    let mut filled = 0;
-    while filled < room.len() {
-        let count = file.read(&mut room[filled..])?;
+    let most = room.len();
+    let mut free = room;
+    while !free.is_empty() {
+        let count = file.read(free)?;
         if count == 0 {
             break;
         }
-        filled += count;
+        free = &mut free[count..];
     }
-    Ok(filled)
+    Ok(most - free.len())
 }
 
 /// The bytes of market.txt, as many as there is room for; a missing file has none.
@@ -30,5 +31,5 @@ pub(crate) fn read_market<'a>(rt: &HostRuntime, room: &'a mut [u8]) -> io::Resul
         Err(error) if error.kind() == ErrorKind::NotFound => 0,
         Err(error) => return Err(error),
     };
-    Ok(&room[0..length])
+    Ok(&room[..length])
 }

@@ -13,7 +13,7 @@ use Rattle.market_lines.proofs.Lettering.{line_by_grammar}
 use Rattle.market.specs.declared.sizes.Sizes.{Sizes}
 use Rattle.market_file.specs.Bounds.{least_words, most_words, lowest, highest, within, misfit, count_fits, CountRight, InRange}
 use Rattle.market_file.specs.Files.{numbers_at}
-use Rattle.market_file.specs.FormedLines.{ranged, fitting, passed, fitted, line_formed, FormedLine, LeftmostOutside, BrokenLine, LineByForm}
+use Rattle.market_file.specs.FormedLines.{ranged, passed, fitted, line_formed, FormedLine, LeftmostOutside, BrokenLine, LineByForm}
 
 -- ---- the count
 
@@ -50,7 +50,7 @@ all_in k z j [] e = tt
 all_in k z j (x ∷ ns) e =
     elim (cases_Bool (within k z j x)) [
       | inl h ↦ let r = in_range k z j x h in (r.0, r.1, all_in k z (suc j) ns (sym (ap (λ t. cond t (misfit k z (suc j) ns) (Some j)) h) ∙ e))
-      | inr h ↦ let both : ◌≡◌ {A = Option ℕ} (Some j) None = sym (ap (λ t. cond t (misfit k z (suc j) ns) (Some j)) h) ∙ e in let w : ◌≡◌ {A = ℕ} 0 1 = cc in absurd (omega arith)
+      | inr h ↦ let both : ◌≡◌ {A = Option ℕ} (Some j) None = sym (ap (λ t. cond t (misfit k z (suc j) ns) (Some j)) h) ∙ e in absurd cc
     ]
 
 in_all : (k : Kind) (z : Sizes) (j : ℕ) (ns : List ℕ) → InRange k z j ns → misfit k z j ns ≡ None
@@ -58,7 +58,7 @@ in_all k z j [] h = refl
 in_all k z j (x ∷ ns) h = ap (λ t. cond t (misfit k z (suc j) ns) (Some j)) (range_in k z j x h.0 h.1) ∙ in_all k z (suc j) ns h.2
 
 one_out : (k : Kind) (z : Sizes) (j i : ℕ) (ns : List ℕ) → misfit k z j ns ≡ Some i → Outside k z j ns i
-one_out k z j i [] e = let w : ◌≡◌ {A = ℕ} 0 1 = cc in absurd (omega arith)
+one_out k z j i [] e = absurd cc
 one_out k z j i (x ∷ ns) e =
     elim (cases_Bool (within k z j x)) [
       | inl h ↦
@@ -78,13 +78,6 @@ pub fitted_ok : (k : Kind) (z : Sizes) (l : Read) → CountRight k z (length l.n
 fitted_ok k z l count ranges =
     ap (λ t. passed (cond t (ranged (misfit k z 1 l.numbers)) (Err Count)) l) (right_count k z (length l.numbers) count)
     ∙ ap (λ o. passed (ranged o) l) (in_all k z 1 l.numbers ranges)
-
--- A line that was read and whose numbers do not fit.
-pub unfit : (k : Kind) (z : Sizes) (text : List ℕ) (l : Read) (x : LineFault) → line_read k text ≡ Ok l → fitting k z l.numbers ≡ Err x → line_formed k z text ≡ Err x
-unfit k z text l x is f = ap (fitted k z) is ∙ ap (λ u. passed u l) f
-
-pub fit : (k : Kind) (z : Sizes) (text : List ℕ) (l : Read) (u : Unit) → line_read k text ≡ Ok l → fitting k z l.numbers ≡ Ok u → line_formed k z text ≡ Ok l
-fit k z text l u is f = ap (fitted k z) is ∙ ap (λ u. passed u l) f
 
 -- A wrong count, and a leftmost number out of its range, are answered so.
 miscount : (k : Kind) (z : Sizes) (l : Read) → (CountRight k z (length l.numbers) → ⊥) → fitted k z (Ok l) ≡ Err Count
@@ -153,13 +146,13 @@ line_by_form z k text r e = at (line_read k text) refl e
         record {
           sound = λ m h. let same : l ≡ m = cc in subst (λ x. (x ≡ whole k text x.numbers) × FormedLine z k x.numbers text) same ((grammar.sound l is).0, record { spelled = (grammar.sound l is).1; count = count; ranges = ranges });
           complete = complete;
-          fault = λ x h. let w : ◌≡◌ {A = ℕ} 0 1 = cc in absurd (omega arith);
+          fault = λ x h. absurd cc;
           named = named;
         }
     read l is f (miscounted h not) =
         let bad : r ≡ Err Count = f ∙ h in
         record {
-          sound = λ m h. let w : ◌≡◌ {A = ℕ} 0 1 = cc in absurd (omega arith);
+          sound = λ m h. absurd cc;
           complete = complete;
           fault = λ x h. let same : Count ≡ x = cc in subst (λ y. BrokenLine z k y text) same (l.numbers, (grammar.sound l is).1, not);
           named = named;
@@ -167,7 +160,7 @@ line_by_form z k text r e = at (line_read k text) refl e
     read l is f (outranged j h count out) =
         let bad : r ≡ Err (Range j) = f ∙ h in
         record {
-          sound = λ m h. let w : ◌≡◌ {A = ℕ} 0 1 = cc in absurd (omega arith);
+          sound = λ m h. absurd cc;
           complete = complete;
           fault = λ x h. let same : Range j ≡ x = cc in subst (λ y. BrokenLine z k y text) same (l.numbers, (grammar.sound l is).1, count, out);
           named = named;
@@ -181,7 +174,7 @@ line_by_form z k text r e = at (line_read k text) refl e
     at : (o : Result Read LineFault) → line_read k text ≡ o → r ≡ fitted k z o → LineByForm z k text r
     at (Ok l) is f = read l is f (way z k l)
     at (Err x) is f = record {
-      sound = λ l h. let w : ◌≡◌ {A = ℕ} 0 1 = cc in absurd (omega arith);
+      sound = λ l h. absurd cc;
       complete = complete;
       fault = λ y h. let same : x ≡ y = cc in subst (λ f. BrokenLine z k f text) same (unread x (grammar.fault x is));
       named = named;
@@ -198,7 +191,7 @@ numbers_at_line k z text l e =
   where
     at : (o : Option ℕ) (ms ns : List ℕ) → unless o ms ≡ Ok ns → ns ≡ ms
     at None ms ns e = cc
-    at (Some j) ms ns e = let w : ◌≡◌ {A = ℕ} 0 1 = cc in absurd (omega arith)
+    at (Some j) ms ns e = absurd cc
 
     numbers_read : (rest ns : List ℕ) → words_read rest ≡ Ok ns → ns ≡ numbers_in rest
     numbers_read rest ns e = at (malformed rest) (numbers_in rest) ns e

@@ -1,6 +1,6 @@
 -- What the check of a file's form means. Assumes nothing.
 use Rattle.std.proofs.Common.{◌≡◌, ℕ, ◌<◌, ◌≤◌, true, false, cond, ltb, leb, List, [], ◌∷◌, length, Some, None, Ok, Err, Option, Result, sym, refl, ap, ◌∙◌, subst, inl, inr, arith}
-use Rattle.std.proofs.lemmas.Bool.{and_parts, cases_Bool, leb-true, ltb-true, both_ways}
+use Rattle.std.proofs.lemmas.Bool.{and_parts, and_from, cases_Bool, leb-true, le-leb, ltb-true, lt-ltb, both_ways}
 use Rattle.spelling.specs.Lines.{lines, closed}
 use Rattle.spelling.proofs.Rejoining.{rejoins}
 use Rattle.market_lines.specs.declared.fault.LineFault.{LineFault}
@@ -16,7 +16,6 @@ use Rattle.market_file.specs.Files.{sections_checked, unknown, sizes_from, right
 use Rattle.market_file.specs.FormedLines.{line_formed, FormedLine}
 use Rattle.market_file.specs.Keeping.{Sections, sizes_line, contents_line, KeepsForm, BrokenContents, BrokenForm, Sized, FormLaw}
 use Rattle.market_file.specs.Ledgers.{blank}
-use Rattle.market_file.proofs.Filing.{sized_from, file_lines}
 use Rattle.market_file.proofs.Sectioning.{law, sections_sound, sections_complete, sections_broken, sections_named}
 use Rattle.market_file.proofs.Wrongly.{right_from, from_right, leftmost, found}
 
@@ -50,10 +49,10 @@ sizes_line_formed ns text f = subst (λ l. FormedLine unknown kind.Market l text
 
 formed_ok : (z : Sizes) (c : Contents) (r : Result Unit MarketFault) (f : Form) → formed z c r ≡ Ok f → (r ≡ Ok tt) × (f ≡ record { sizes = z; contents = c })
 formed_ok z c (Ok tt) f e = (refl, cc)
-formed_ok z c (Err x) f e = let w : ◌≡◌ {A = ℕ} 0 1 = cc in absurd (omega arith)
+formed_ok z c (Err x) f e = absurd cc
 
 formed_err : (z : Sizes) (c : Contents) (r : Result Unit MarketFault) (x : MarketFault) → formed z c r ≡ Err x → r ≡ Err x
-formed_err z c (Ok u) x e = let w : ◌≡◌ {A = ℕ} 0 1 = cc in absurd (omega arith)
+formed_err z c (Ok u) x e = absurd cc
 formed_err z c (Err y) x e = cc
 
 -- What the lines from the second on keep.
@@ -70,11 +69,11 @@ abbrev from_second : Sizes → List (List ℕ) → Result Form MarketFault
 from_second z ls = with_sizes (Ok z) ls
 
 contents_sound : (z : Sizes) (ls : List (List ℕ)) (f : Form) → from_second z ls ≡ Ok f → (f.sizes ≡ z) × KeepsContents z ls f.contents
-contents_sound z [] f e = let w : ◌≡◌ {A = ℕ} 0 1 = cc in absurd (omega arith)
+contents_sound z [] f e = absurd cc
 contents_sound z (l ∷ ls) f e = at (line_formed kind.Contents z l) refl e
   where
     counted : (x : Read) → line_formed kind.Contents z l ≡ Ok x → (o : Option ℕ) → wrong_count z (contents_in x.numbers) ≡ o → with_contents z (rightly o (contents_in x.numbers)) ls ≡ Ok f → (f.sizes ≡ z) × KeepsContents z (l ∷ ls) f.contents
-    counted x is (Some j) none h = let w : ◌≡◌ {A = ℕ} 0 1 = cc in absurd (omega arith)
+    counted x is (Some j) none h = absurd cc
     counted x is None none h =
         let c = contents_in x.numbers in
         let g = formed_ok z c (sections_checked z 2 blank (kinds_of c) ls) f h in
@@ -83,7 +82,7 @@ contents_sound z (l ∷ ls) f e = at (line_formed kind.Contents z l) refl e
 
     at : (o : Result Read LineFault) → line_formed kind.Contents z l ≡ o → with_contents z (contents_from z o) ls ≡ Ok f → (f.sizes ≡ z) × KeepsContents z (l ∷ ls) f.contents
     at (Ok x) is h = counted x is (wrong_count z (contents_in x.numbers)) refl h
-    at (Err y) is h = let w : ◌≡◌ {A = ℕ} 0 1 = cc in absurd (omega arith)
+    at (Err y) is h = absurd cc
 
 contents_complete : (z : Sizes) (ls : List (List ℕ)) (c : Contents) → KeepsContents z ls c → from_second z ls ≡ Ok (record { sizes = z; contents = c })
 contents_complete z ls c k =
@@ -125,11 +124,11 @@ contents_named z (l ∷ ls) e (inr (c, f, inr b)) =
 -- ---- all lines
 
 form_sound : (ls : List (List ℕ)) (f : Form) → form_read ls ≡ Ok f → KeepsForm ls f
-form_sound [] f e = let w : ◌≡◌ {A = ℕ} 0 1 = cc in absurd (omega arith)
+form_sound [] f e = absurd cc
 form_sound (l ∷ ls) f e = at (line_formed kind.Market unknown l) refl e
   where
     at : (o : Result Read LineFault) → line_formed kind.Market unknown l ≡ o → with_sizes (sizes_from o) ls ≡ Ok f → KeepsForm (l ∷ ls) f
-    at (Err y) is h = let w : ◌≡◌ {A = ℕ} 0 1 = cc in absurd (omega arith)
+    at (Err y) is h = absurd cc
     at (Ok x) is h =
         let z = sizes_in x.numbers in
         let g = contents_sound z ls f h in
@@ -171,6 +170,13 @@ from_sized bs e =
 pub same_lines : (file other : List ℕ) → closed other ≡ closed file → lines other ≡ lines file
 same_lines file other e = let r = rejoins other in (rejoins file).only (lines other) r.apart (r.whole ∙ e)
 
+-- A file of a good size is read by its lines.
+sized_from : (bs : List ℕ) → Sized bs → sized bs ≡ true
+sized_from bs s = and_from (ltb 0 (length bs)) (leb (length bs) 65535) (lt-ltb 0 (length bs) (omega arith)) (le-leb (length bs) 65535 s.1)
+
+file_lines : (bs : List ℕ) → Sized bs → file_form bs ≡ form_read (lines bs)
+file_lines bs s = ap (λ t. cond t (form_read (lines bs)) (Err fault.Size)) (sized_from bs s)
+
 pub form_law : (file : List ℕ) (r : Result Form MarketFault) → r ≡ file_form file → FormLaw file r
 form_law file r e =
     elim (cases_Bool (sized file)) [
@@ -195,7 +201,7 @@ form_law file r e =
         let is : r ≡ Err fault.Size = e ∙ ap (λ t. cond t (form_read (lines file)) (Err fault.Size)) bad in
         let never : Sized file → ⊥ = λ s. both_ways (sized file) bad (sized_from file s) in
         record {
-          sound = λ f h. let w : ◌≡◌ {A = ℕ} 0 1 = cc in absurd (omega arith);
+          sound = λ f h. absurd cc;
           complete = λ f s k. absurd (never s);
           first = λ x h. let same : x ≡ fault.Size = cc in inl (same, never);
           outside = λ _. is;

@@ -1,4 +1,3 @@
-pub mod Dues
 pub mod Filing
 pub mod Forming
 pub mod Lawful

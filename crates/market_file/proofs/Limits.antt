@@ -21,26 +21,26 @@ limits (a ∷ []) h r = absurd (omega arith)
 limits (a ∷ b ∷ ns) h r = (r.1, r.2.1)
 
 pub sizes_limited : (o : Option (List ℕ)) (z : Sizes) → sizes_read o ≡ Ok z → (z.agents ≤ 200) × (z.places ≤ 40)
-sizes_limited None z e = let w : ◌≡◌ {A = ℕ} 0 1 = cc in absurd (omega arith)
+sizes_limited None z e = absurd cc
 sizes_limited (Some l) z e = at (line_formed kind.Market unknown l) refl e
   where
     at : (r : Result Read LineFault) → line_formed kind.Market unknown l ≡ r → sizes_from r ≡ Ok z → (z.agents ≤ 200) × (z.places ≤ 40)
-    at (Err x) is f = let w : ◌≡◌ {A = ℕ} 0 1 = cc in absurd (omega arith)
+    at (Err x) is f = absurd cc
     at (Ok x) is f =
         let same : sizes_in x.numbers ≡ z = cc in
         let g = ((line_by_form unknown kind.Market l (line_formed kind.Market unknown l) refl).sound x is).1 in
         subst (λ y. (y.agents ≤ 200) × (y.places ≤ 40)) same (limits x.numbers g.count.0 g.ranges)
 
 pub contents_right : (z : Sizes) (o : Option (List ℕ)) (c : Contents) → contents_read z o ≡ Ok c → RightContents z c
-contents_right z None c e = let w : ◌≡◌ {A = ℕ} 0 1 = cc in absurd (omega arith)
+contents_right z None c e = absurd cc
 contents_right z (Some l) c e = at (line_formed kind.Contents z l) e
   where
     counted : (d : Contents) (m : Option ℕ) → wrong_count z d ≡ m → rightly m d ≡ Ok c → RightContents z c
     counted d None is f = let same : d ≡ c = cc in subst (RightContents z) same (right_from z d is)
-    counted d (Some j) is f = let w : ◌≡◌ {A = ℕ} 0 1 = cc in absurd (omega arith)
+    counted d (Some j) is f = absurd cc
 
     at : (r : Result Read LineFault) → contents_from z r ≡ Ok c → RightContents z c
-    at (Err x) f = let w : ◌≡◌ {A = ℕ} 0 1 = cc in absurd (omega arith)
+    at (Err x) f = absurd cc
     at (Ok x) f = counted (contents_in x.numbers) (wrong_count z (contents_in x.numbers)) refl f
 
 -- How many lines the sections have.

@@ -1,5 +1,5 @@
 -- The lines of the sections: what their check means. Assumes nothing.
-use Rattle.std.proofs.Common.{◌≡◌, ℕ, suc, List, [], ◌∷◌, Some, None, Ok, Err, Option, Result, sym, refl, ap, ◌∙◌, inl, inr, arith}
+use Rattle.std.proofs.Common.{◌≡◌, ℕ, suc, List, [], ◌∷◌, Some, None, Ok, Err, Option, Result, sym, refl, ap, ◌∙◌, inl, inr}
 use Rattle.market_lines.specs.declared.fault.LineFault.{LineFault}
 use Rattle.market_lines.specs.declared.fault.MarketFault.{MarketFault}
 use Rattle.market_lines.specs.declared.fault.MarketFault.TheVariants as fault
@@ -51,15 +51,15 @@ module _ (z : Sizes) (n : ℕ) (d : Known) (k : Kind) (ks : List Kind) (l : List
       at (Ok x) is = names x.numbers ((law z k l).sound x is).1 (name_fault d.names d.nodes k x.numbers) refl
 
 never : {X : Type 0} (x : X) (e : MarketFault) → ◌≡◌ {A = Result X MarketFault} (Err e) (Ok x) → ⊥
-never x e h = let w : ◌≡◌ {A = ℕ} 0 1 = cc in omega arith
+never x e h = cc
 
 same_fault : {X : Type 0} (e f : MarketFault) → ◌≡◌ {A = Result X MarketFault} (Err e) (Err f) → f ≡ e
 same_fault e f h = cc
 
 pub sections_sound : (z : Sizes) (n : ℕ) (d : Known) (ks : List Kind) (ls : List (List ℕ)) (u : Unit) → sections_checked z n d ks ls ≡ Ok u → Sections z d ks ls
 sections_sound z n d [] [] u e = tt
-sections_sound z n d [] (l ∷ ls) u e = let w : ◌≡◌ {A = ℕ} 0 1 = cc in absurd (omega arith)
-sections_sound z n d (k ∷ ks) [] u e = let w : ◌≡◌ {A = ℕ} 0 1 = cc in absurd (omega arith)
+sections_sound z n d [] (l ∷ ls) u e = absurd cc
+sections_sound z n d (k ∷ ks) [] u e = absurd cc
 sections_sound z n d (k ∷ ks) (l ∷ ls) u e =
     by_line z n d k ks l ls _
     (λ x b is. absurd (never u _ (sym is ∙ e)))
@@ -77,7 +77,7 @@ sections_complete z n d (k ∷ ks) (l ∷ ls) s =
     ∙ sections_complete z (suc n) (noted k ns d) ks ls s.3
 
 pub sections_broken : (z : Sizes) (n : ℕ) (d : Known) (ks : List Kind) (ls : List (List ℕ)) (e : MarketFault) → sections_checked z n d ks ls ≡ Err e → BrokenSections z n d ks ls e
-sections_broken z n d [] [] e h = let w : ◌≡◌ {A = ℕ} 0 1 = cc in absurd (omega arith)
+sections_broken z n d [] [] e h = absurd cc
 sections_broken z n d [] (l ∷ ls) e h = cc
 sections_broken z n d (k ∷ ks) [] e h = cc
 sections_broken z n d (k ∷ ks) (l ∷ ls) e h =

@@ -1,48 +1,29 @@
 -- The counts of the contents: which is the leftmost wrong one. Assumes nothing.
-use Rattle.std.proofs.Common.{◌≡◌, ℕ, zero, suc, ◌<◌, ◌≤◌, Bool, true, false, cond, eqb, leb, ◌⊎◌, Some, None, Option, sym, refl, ap, ◌∙◌, subst, inl, inr, arith}
-use Rattle.std.proofs.lemmas.Bool.{cases_Bool, eqb-true, eqb-false, eq-eqb, ne_eqb, le-leb, leb-true, leb-false, cases_eq}
+use Rattle.std.proofs.Common.{◌≡◌, ℕ, zero, suc, ◌<◌, Bool, true, false, cond, eqb, leb, ◌⊎◌, Some, None, Option, sym, refl, subst, inl, inr, arith}
+use Rattle.std.proofs.lemmas.Bool.{eqb-true, eqb-false, leb-true, leb-false, cases_eq}
+use Rattle.std.proofs.lemmas.Bool.Decides.{nat_tests}
 use Rattle.market_file.specs.declared.form.Contents.{Contents}
 use Rattle.market.specs.declared.sizes.Sizes.{Sizes}
 use Rattle.market_file.specs.Contents.{priorities_due, wrong_count, RightContents}
 use Rattle.market_file.specs.Keeping.{RightCount, LeftmostWrong}
 
 -- One test of a count: it is right and the tests after it decide, or it is the leftmost wrong one.
-passed_test : (b : Bool) (x : Option ℕ) (j : ℕ) → cond b x (Some j) ≡ None → (b ≡ true) × (x ≡ None)
-passed_test true x j e = (refl, e)
-passed_test false x j e = let w : ◌≡◌ {A = ℕ} 0 1 = cc in absurd (omega arith)
-
 failed_test : (b : Bool) (x : Option ℕ) (j i : ℕ) → cond b x (Some j) ≡ Some i → ((b ≡ false) × (j ≡ i)) ⊎ ((b ≡ true) × (x ≡ Some i))
 failed_test true x j i e = inr (refl, e)
 failed_test false x j i e = inl (refl, cc)
 
 pub right_from : (z : Sizes) (c : Contents) → wrong_count z c ≡ None → RightContents z c
-right_from z c e =
-    let p1 = passed_test (eqb c.seats z.places) _ 1 e in
-    let p2 = passed_test (leb c.queues 1) _ 2 p1.1 in
-    let p3 = passed_test (eqb c.priorities (priorities_due z c.queues)) _ 3 p2.1 in
-    let p4 = passed_test (leb c.heirs 300) _ 4 p3.1 in
-    let p5 = passed_test (leb c.tenants z.places) _ 5 p4.1 in
-    let p6 = passed_test (leb c.rankings z.agents) None 6 p5.1 in
-    record {
-      seats = eqb-true _ _ p1.0;
-      queues = leb-true _ _ p2.0;
-      priorities = eqb-true _ _ p3.0;
-      heirs = leb-true _ _ p4.0;
-      tenants = leb-true _ _ p5.0;
-      rankings = leb-true _ _ p6.0;
-    }
-
-passes : (b : Bool) (x : Option ℕ) (j : ℕ) → b ≡ true → x ≡ None → cond b x (Some j) ≡ None
-passes b x j h e = ap (λ t. cond t x (Some j)) h ∙ e
+right_from z c e = record {
+  seats = grind (arith, nat_tests);
+  queues = grind (arith, nat_tests);
+  priorities = grind (arith, nat_tests);
+  heirs = grind (arith, nat_tests);
+  tenants = grind (arith, nat_tests);
+  rankings = grind (arith, nat_tests);
+}
 
 pub from_right : (z : Sizes) (c : Contents) → RightContents z c → wrong_count z c ≡ None
-from_right z c h =
-    passes _ _ 1 (eq-eqb _ _ h.seats)
-    (passes _ _ 2 (le-leb _ _ h.queues)
-    (passes _ _ 3 (eq-eqb _ _ h.priorities)
-    (passes _ _ 4 (le-leb _ _ h.heirs)
-    (passes _ _ 5 (le-leb _ _ h.tenants)
-    (passes _ None 6 (le-leb _ _ h.rankings) refl)))))
+from_right z c h = grind (arith, nat_tests)
 
 -- All counts before place j are right.
 abbrev RightBefore : Sizes → Contents → ℕ → Type 0
@@ -87,7 +68,7 @@ leftmost z c i e =
                                   let b6 = one_more z c 5 b5 (leb-true _ _ p5.0) in
                                   elim (failed_test (leb c.rankings z.agents) None 6 i p5.1) [
                                     | inl w ↦ wrong_here z c 6 i b6 (λ h. omega (arith, leb-false c.rankings z.agents w.0)) w.1
-                                    | inr p6 ↦ let both : ◌≡◌ {A = Option ℕ} None (Some i) = p6.1 in let w : ◌≡◌ {A = ℕ} 0 1 = cc in absurd (omega arith)
+                                    | inr p6 ↦ let both : ◌≡◌ {A = Option ℕ} None (Some i) = p6.1 in absurd cc
                                   ]
                             ]
                       ]
@@ -99,45 +80,39 @@ leftmost z c i e =
     b1 = none_before z c
 
 -- The other way round: the leftmost wrong count is found.
-on : (b : Bool) (x y : Option ℕ) (i : ℕ) → b ≡ true → x ≡ y → cond b x (Some i) ≡ y
-on b x y i h e = ap (λ t. cond t x (Some i)) h ∙ e
-
-off : (b : Bool) (x : Option ℕ) (i : ℕ) → b ≡ false → cond b x (Some i) ≡ Some i
-off b x i h = ap (λ t. cond t x (Some i)) h
-
-not_le : (a b : ℕ) → (a ≤ b → ⊥) → leb a b ≡ false
-not_le a b h =
-    elim (cases_Bool (leb a b)) [
-      | inl e ↦ absurd (h (leb-true a b e))
-      | inr e ↦ e
-    ]
-
 pub found : (z : Sizes) (c : Contents) (j : ℕ) → LeftmostWrong z c j → wrong_count z c ≡ Some j
 found z c zero h = absurd (h.1 tt)
-found z c (suc zero) h = off _ _ 1 (ne_eqb _ _ h.1)
+found z c (suc zero) h =
+    let here = h.1 in
+    grind (arith, nat_tests)
 found z c (suc (suc zero)) h =
-    on _ _ _ 1 (eq-eqb _ _ (h.0 1 (omega arith)))
-    (off _ _ 2 (not_le _ _ h.1))
+    let before_1 = h.0 1 (omega arith) in
+    let here = h.1 in
+    grind (arith, nat_tests)
 found z c (suc (suc (suc zero))) h =
-    on _ _ _ 1 (eq-eqb _ _ (h.0 1 (omega arith)))
-    (on _ _ _ 2 (le-leb _ _ (h.0 2 (omega arith)))
-    (off _ _ 3 (ne_eqb _ _ h.1)))
+    let before_1 = h.0 1 (omega arith) in
+    let before_2 = h.0 2 (omega arith) in
+    let here = h.1 in
+    grind (arith, nat_tests)
 found z c (suc (suc (suc (suc zero)))) h =
-    on _ _ _ 1 (eq-eqb _ _ (h.0 1 (omega arith)))
-    (on _ _ _ 2 (le-leb _ _ (h.0 2 (omega arith)))
-    (on _ _ _ 3 (eq-eqb _ _ (h.0 3 (omega arith)))
-    (off _ _ 4 (not_le _ _ h.1))))
+    let before_1 = h.0 1 (omega arith) in
+    let before_2 = h.0 2 (omega arith) in
+    let before_3 = h.0 3 (omega arith) in
+    let here = h.1 in
+    grind (arith, nat_tests)
 found z c (suc (suc (suc (suc (suc zero))))) h =
-    on _ _ _ 1 (eq-eqb _ _ (h.0 1 (omega arith)))
-    (on _ _ _ 2 (le-leb _ _ (h.0 2 (omega arith)))
-    (on _ _ _ 3 (eq-eqb _ _ (h.0 3 (omega arith)))
-    (on _ _ _ 4 (le-leb _ _ (h.0 4 (omega arith)))
-    (off _ _ 5 (not_le _ _ h.1)))))
+    let before_1 = h.0 1 (omega arith) in
+    let before_2 = h.0 2 (omega arith) in
+    let before_3 = h.0 3 (omega arith) in
+    let before_4 = h.0 4 (omega arith) in
+    let here = h.1 in
+    grind (arith, nat_tests)
 found z c (suc (suc (suc (suc (suc (suc zero)))))) h =
-    on _ _ _ 1 (eq-eqb _ _ (h.0 1 (omega arith)))
-    (on _ _ _ 2 (le-leb _ _ (h.0 2 (omega arith)))
-    (on _ _ _ 3 (eq-eqb _ _ (h.0 3 (omega arith)))
-    (on _ _ _ 4 (le-leb _ _ (h.0 4 (omega arith)))
-    (on _ _ _ 5 (le-leb _ _ (h.0 5 (omega arith)))
-    (off _ _ 6 (not_le _ _ h.1))))))
+    let before_1 = h.0 1 (omega arith) in
+    let before_2 = h.0 2 (omega arith) in
+    let before_3 = h.0 3 (omega arith) in
+    let before_4 = h.0 4 (omega arith) in
+    let before_5 = h.0 5 (omega arith) in
+    let here = h.1 in
+    grind (arith, nat_tests)
 found z c (suc (suc (suc (suc (suc (suc (suc j))))))) h = absurd (h.1 tt)

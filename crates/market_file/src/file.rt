@@ -30,6 +30,7 @@ fn form_of(ledger: &mut Ledger, file: &[u8]) -> Result<Form, MarketFault>
 }
 
 /// The form of a file, or the first of its faults. The ledger is room for the check, and blank after it.
+#[tactic(auto, using(crate::proofs::Lawful::form_law))]
 pub fn check_form(ledger: &mut Ledger, file: &[u8]) -> Result<Form, MarketFault>
     ensures value { result ≡ file_form file.now }
     ensures law { FormLaw file.now result }

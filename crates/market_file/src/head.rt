@@ -15,20 +15,18 @@ use market_lines::kind::Kind;
 use spelling::words::Words;
 
 /// The sizes that the words of an M line say.
-pub(crate) fn sizes_in(words: Words<'_>) -> Sizes
+pub(crate) fn sizes_in(mut words: Words<'_>) -> Sizes
     ensures { result ≡ sizes_in (numbers_of words.entry) }
 {
-    let mut words = words;
     let agents = words.take_next();
     let places = words.take_next();
     Sizes { agents, places }
 }
 
 /// The contents that the words of a C line say.
-pub(crate) fn contents_in(words: Words<'_>) -> Contents
+pub(crate) fn contents_in(mut words: Words<'_>) -> Contents
     ensures { result ≡ contents_in (numbers_of words.entry) }
 {
-    let mut words = words;
     let seats = words.take_next();
     let queues = words.take_next();
     let priorities = words.take_next();

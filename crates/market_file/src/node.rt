@@ -9,10 +9,9 @@ use market::place::Place;
 use spelling::words::Words;
 
 /// The node that the words of an H line say.
-pub fn node_in(words: Words<'_>) -> Node
+pub fn node_in(mut words: Words<'_>) -> Node
     ensures { result ≡ node_in (numbers_of words.entry) }
 {
-    let mut words = words;
     let place = words.take_next();
     let parent = words.take_next();
     let took = words.take_next();

@@ -24,7 +24,7 @@ use Rattle.market_reader.specs.declared.record.Served.TheVariants.{ByQueue, ByPr
 use Rattle.market_reader.specs.Filling.{Entry, entries_of, of_kind, order_in, tenant_in, orders_after, with_queue, with_order, with_orders, with_nodes, with_tenants, entered, after}
 use Rattle.market_reader.specs.Held.{Held, Orders, queue, priorities, orders_by}
 use Rattle.market_reader.specs.Tables.{set_at, about}
-use Rattle.market_reader.proofs.Tabling.{take_set_at}
+use Rattle.market_reader.proofs.Tabling.{take_set_at, room_fewer}
 
 -- A P line changes the order of its place, where there are priorities.
 pub order_entered : (s : Served) (q : List Agent) (m : ℕ) (t u : List (List Agent)) (ns : List ℕ) → u ≡ set_at t (about ns) (order_in ns) → orders_by s q (take m u) ≡ with_order (orders_by s q (take m t)) ns
@@ -126,3 +126,8 @@ few_at [] ls i p q few within e = absurd (omega arith)
 few_at (k ∷ ks) [] i p q few within e = absurd (omega arith)
 few_at (k ∷ ks) (l ∷ ls) zero p q few within e = rw e few.0
 few_at (k ∷ ks) (l ∷ ls) (suc i) p q few within e = few_at ks ls i p q few.1 (omega arith) e
+
+-- What a market holds before the first record, and after one more.
+pub ruleset no_record = (alike, no_orders_at_first, take-replicate)
+
+pub ruleset one_record = (room_fewer, take_set_at, order_entered)

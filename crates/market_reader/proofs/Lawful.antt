@@ -6,13 +6,14 @@ use Rattle.market_lines.specs.declared.fault.MarketFault.{MarketFault}
 use Rattle.market_file.specs.declared.form.Form.{Form}
 use Rattle.market_file.specs.Contents.{kinds_of}
 use Rattle.market_file.specs.Files.{numbers_at, file_form}
-use Rattle.market_file.specs.Keeping.{Sections, KeepsForm}
+use Rattle.market_file.specs.Keeping.{Sections, KeepsForm, FormLaw}
 use Rattle.market_file.specs.Ledgers.{blank}
+use Rattle.market_file.proofs.Limits.{few_kinds}
 use Rattle.market_file.proofs.Lawful.{form_law, same_lines}
 use Rattle.market_reader.specs.Filling.{entries_of, market_of}
 use Rattle.market_reader.specs.Held.{Held}
 use Rattle.market_reader.specs.Keeping.{Records, Holds, KeepsFormat, SoundMarket, MarketLaw}
-use Rattle.market_reader.specs.Markets.{market_from, market_read, verdict_of, left, answered}
+use Rattle.market_reader.specs.Markets.{market_from, market_read}
 use Rattle.market_reader.proofs.Holding.{holds_of, one_market}
 use Rattle.market_reader.proofs.Recording.{few_each, records_of, records_only}
 use Rattle.market_reader.proofs.RightNames.{Rightly, rightly_each}
@@ -100,3 +101,19 @@ market_law file r e =
       named = λ x s b. e ∙ ap (λ o. market_from o (lines file)) (known.named x s b);
       alike = λ other c o s. ap (λ x. market_from x (lines other)) (known.alike other c o s) ∙ ap (market_from (file_form file)) (same_lines file other c) ∙ sym e;
     }
+
+-- ---- what is known of a form that was accepted
+
+pub sizes_few : (file : List ℕ) (f : Form) → FormLaw file (Ok f) → (f.sizes.agents ≤ 200) × (f.sizes.places ≤ 40)
+sizes_few file f law = let kept = (law.sound f refl).1 in ((agents_bound (lines file) f kept).1, (places_bound (lines file) f kept).1)
+
+pub kinds_few : (file : List ℕ) (f : Form) → FormLaw file (Ok f) → length (kinds_of f.contents) ≤ 621
+kinds_few file f law =
+    let kept = (law.sound f refl).1 in
+    few_kinds f.sizes f.contents (agents_bound (lines file) f kept).1 (places_bound (lines file) f kept).1 kept.right
+
+pub words_few : (file : List ℕ) (f : Form) → FormLaw file (Ok f) → AllByRecursion (λ l. length (numbers_at l) ≤ 201) (drop 2 (lines file))
+words_few file f law = few_kept (lines file) f (law.sound f refl).1
+
+-- What the reading of a file rests on.
+pub ruleset reading = (market_law, sizes_few, kinds_few, words_few)

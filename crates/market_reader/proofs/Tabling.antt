@@ -1,9 +1,10 @@
 -- Lists filled by numbers. Assumes nothing.
-use Rattle.std.proofs.Common.{◌≡◌, ℕ, zero, suc, ◌+◌, ◌-◌, ◌<◌, ◌≤◌, true, leb, ◌⊎◌, List, [], ◌∷◌, ◌++◌, Some, None, map, length, take, drop, set, replicate, sym, refl, ap, ◌∙◌, inl, inr, append-nil, add-one, arith}
-use lib.Seq.{map-set, take-set-lt, take-set-le}
-use Rattle.std.specs.List.{slice_get}
-use Rattle.std.proofs.lemmas.List.{drop_all, length-take}
-use Rattle.std.proofs.lemmas.Bool.{and_parts, and_from, le-leb, leb-true, cases_lt}
+use Rattle.std.proofs.Common.{◌≡◌, ℕ, zero, suc, ◌+◌, ◌-◌, ◌<◌, ◌≤◌, true, leb, List, [], ◌∷◌, ◌++◌, Some, None, map, length, take, drop, set, replicate, sym, refl, ap, ◌∙◌, inl, inr, add-one, arith}
+use lib.Seq.{map-set, map-set_same, take-set-lt, take-set-le}
+use Rattle.std.proofs.lemmas.Grind.{common_steps}
+use Rattle.std.proofs.lemmas.Option.{gets}
+use Rattle.std.proofs.lemmas.List.{length-map, length-take, take-map}
+use Rattle.std.proofs.lemmas.Bool.{and_parts, leb-true, cases_lt}
 use Rattle.market_reader.specs.Rooms.{room_for}
 use Rattle.market_reader.specs.Tables.{set_at, entry_at}
 
@@ -20,19 +21,12 @@ map_set_at f t (suc i) x y e = ap (λ k. map f (set t k x)) (omega arith) ∙ ma
 -- What is read is the same where it is the same of the old element and the new.
 pub map_set_at_same : {X Y : Type 0} (f : X → Y) (t : List X) (n : ℕ) (x y : X) → Some y ≡ entry_at t n → f x ≡ f y → map f (set t (n - 1) x) ≡ map f t
 map_set_at_same f t zero x y e same = absurd cc
-map_set_at_same {X} f t (suc i) x y e same = ap (λ k. map f (set t k x)) (omega arith) ∙ go t i e
-  where
-    go : (t : List X) (i : ℕ) → Some y ≡ slice_get t i → map f (set t i x) ≡ map f t
-    go [] i e = refl
-    go (z ∷ t) zero e = cc
-    go (z ∷ t) (suc i) e = ap (λ l. f z ∷ l) (go t i e)
+map_set_at_same f t (suc i) x y e same = grind (arith, common_steps, gets, map-set, map-set_same)
 
 -- Where there is no such number nothing changes.
 pub set_at_missing : {X Y : Type 0} (f : X → Y) (t : List X) (n : ℕ) (x : Y) → None ≡ entry_at t n → map f t ≡ set_at (map f t) n x
 set_at_missing f t zero x e = refl
-set_at_missing f [] (suc i) x e = refl
-set_at_missing f (y ∷ t) (suc zero) x e = absurd cc
-set_at_missing f (y ∷ t) (suc (suc i)) x e = ap (λ l. f y ∷ l) (set_at_missing f t (suc i) x e)
+set_at_missing f t (suc i) x e = grind (arith, common_steps, gets)
 
 -- The first entries of a list with another element.
 pub take_set_at : {X : Type 0} (m : ℕ) (t : List X) (n : ℕ) (x : X) → take m (set_at t n x) ≡ set_at (take m t) n x
@@ -64,6 +58,13 @@ room_at k capacity (x ∷ t) (suc (suc i)) y e r = room_at k capacity t (suc i) 
 -- Room for more is room for fewer.
 pub room_fewer : (n k : ℕ) (cs : List ℕ) → k ≤ n → room_for n cs ≡ true → room_for k cs ≡ true
 room_fewer n k [] h r = refl
-room_fewer n k (c ∷ cs) h r =
-    let p = and_parts (leb n c) (room_for n cs) r in
-    and_from (leb k c) (room_for k cs) (le-leb k c (omega (arith, leb-true n c p.0))) (room_fewer n k cs h p.1)
+room_fewer n k (c ∷ cs) h r = grind (arith, common_steps, room_fewer n k cs h)
+
+-- The first of what is read from the elements of a list.
+pub ruleset first_read = (take-map)
+
+-- Another entry in a list of lists.
+pub ruleset another_entry = (map_set_at, map_set_at_same, set_at_missing, room_at)
+
+-- One list more is empty.
+pub ruleset emptied = (map-set, map-set_same, emptied_more, length-map)

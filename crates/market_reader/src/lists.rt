@@ -20,11 +20,8 @@ fn entry_at<T, A: Allocator>(list: &mut Vec<T, A>, number: u16) -> Option<&mut T
 }
 
 /// Gathers what the words stand for in the list with a number, where there is one.
-pub(crate) fn gather_at<T: Numbered>(
-    lists: &mut Vec<Vec<T>>,
-    number: u16,
-    words: Words<'_>,
-)
+#[tactic(auto, using(crate::proofs::Tabling::another_entry))]
+pub(crate) fn gather_at<T: Numbered>(lists: &mut Vec<Vec<T>>, number: u16, words: Words<'_>)
     requires { room_for (length (numbers_of words)) (map vec_capacity lists.old.items) ≡ true }
     ensures items { map vec_items lists.new.items ≡ set_at (map vec_items lists.old.items) number (map T.Numbered.stands (numbers_of words.entry)) }
     ensures capacities { map vec_capacity lists.new.items ≡ map vec_capacity lists.old.items }
@@ -36,6 +33,7 @@ pub(crate) fn gather_at<T: Numbered>(
 }
 
 /// Empties all lists.
+#[tactic(auto, using(crate::proofs::Tabling::emptied))]
 pub(crate) fn clear_all<T: Drop>(lists: &mut Vec<Vec<T>>)
     ensures items { map vec_items lists.new.items ≡ replicate (vec_len lists.old) [] }
     ensures capacities { map vec_capacity lists.new.items ≡ map vec_capacity lists.old.items }

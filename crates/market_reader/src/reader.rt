@@ -33,6 +33,7 @@ fn enter_all(market: &mut Market, contents: Contents, file: &[u8])
 
 /// Reads a file: the market that it says, or the first of its faults; then the market stays as it was. The ledger is
 /// room for the check, and blank after it.
+#[tactic(auto, using(crate::proofs::Lawful::reading))]
 pub fn read_market(ledger: &mut Ledger, market: &mut Market, file: &[u8]) -> Result<(), MarketFault>
     ensures value { result ≡ verdict_of (market_read file.now) }
     ensures market { held market.new ≡ left (market_read file.now) (held market.old) }

@@ -19,6 +19,7 @@ pub enum OrdersRef<'a> {
 }
 
 /// Which orders of agents a market has.
+// Kept: room for a queue and for priorities is made beforehand, so a market holds both and says which counts.
 #[derive(Clone, Copy)]
 pub(crate) enum Served {
     /// One order for all places.

@@ -1,6 +1,7 @@
 -- What a line names wrongly, and what that means. Assumes nothing.
-use Rattle.std.proofs.Common.{◌≡◌, ℕ, zero, suc, ◌+◌, Bool, true, false, cond, not, ◌&&◌, eqb, ◌⊎◌, List, [], ◌∷◌, get_or, drop, Some, None, Option, sym, refl, ap, ◌∙◌, inl, inr}
+use Rattle.std.proofs.Common.{arith, ◌≡◌, ℕ, zero, suc, ◌+◌, Bool, true, false, cond, not, eqb, ◌⊎◌, List, [], ◌∷◌, get_or, drop, Some, None, Option, sym, refl, ap, ◌∙◌, inl, inr}
 use Rattle.std.proofs.lemmas.Bool.{cases_Bool, eqb-true, eq-eqb, or_parts, or_from, and_parts, and_from, not-false, not_from_true, both_ways}
+use Rattle.std.proofs.lemmas.Bool.Decides.{nat_tests}
 use Rattle.std.specs.List.{slice_get, list_any, AllByRecursion}
 use Rattle.market.specs.declared.node.Node.{Node}
 use Rattle.market.specs.Data.{ParentRight, Unlike}
@@ -50,20 +51,13 @@ unlike : (nodes : List Node) (p r t : ℕ) → node_before nodes p r t ≡ false
 unlike nodes p r t e = none_of (is_node p r t) (λ a. a.place.number ≡ p → a.parent ≡ r → a.took ≡ t → ⊥) (λ a f x y z. both_ways (is_node p r t a) f (alike a x y z)) nodes e
   where
     alike : (a : Node) → a.place.number ≡ p → a.parent ≡ r → a.took ≡ t → is_node p r t a ≡ true
-    alike a x y z = and_from _ _ (and_from _ _ (eq-eqb _ _ x) (eq-eqb _ _ y)) (eq-eqb _ _ z)
+    alike a x y z = grind (arith, nat_tests)
 
 like_not : (nodes : List Node) (p r t : ℕ) → Unlike nodes p r t → node_before nodes p r t ≡ false
 like_not nodes p r t u = of_none (is_node p r t) (λ a. a.place.number ≡ p → a.parent ≡ r → a.took ≡ t → ⊥) one nodes u
   where
     one : (a : Node) → (a.place.number ≡ p → a.parent ≡ r → a.took ≡ t → ⊥) → is_node p r t a ≡ false
-    one a h =
-        elim (cases_Bool (is_node p r t a)) [
-          | inl e ↦
-              let q = and_parts (eqb a.place.number p && eqb a.parent r) (eqb a.took t) e in
-              let w = and_parts (eqb a.place.number p) (eqb a.parent r) q.0 in
-              absurd (h (eqb-true _ _ w.0) (eqb-true _ _ w.1) (eqb-true _ _ q.1))
-          | inr e ↦ e
-        ]
+    one a h = grind (arith, nat_tests)
 
 at_place_found : (o : Option Node) (p : ℕ) → at_place o p ≡ true → (a : Node) × (o ≡ Some a) × (a.place.number ≡ p)
 at_place_found None p e = absurd cc

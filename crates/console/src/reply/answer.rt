@@ -22,6 +22,7 @@ impl Reply {
     }
 
     /// Answers a market file: with its first fault, or with `ok` and its sizes.
+    #[tactic(auto, using(crate::proofs::Judging::judged))]
     pub fn answer(&mut self, market: &[u8])
         ensures text { replied self.new ≡ verdict market.now }
         ensures law { Tells market.now (replied self.new) }

@@ -25,6 +25,7 @@ impl Market {
     }
 
     /// The queue, or the priorities by place.
+    #[tactic(auto, using(crate::proofs::Tabling::first_read))]
     pub fn orders(&self) -> OrdersRef<'_>
         ensures { orders_seen result ≡ (held self.now).orders }
     {
@@ -50,6 +51,7 @@ impl Market {
     }
 
     /// The rankings, by agent; empty for an agent without an R line.
+    #[tactic(auto, using(crate::proofs::Tabling::first_read))]
     pub fn rankings(&self) -> &[Vec<Place>]
         ensures { map vec_items result.now ≡ (held self.now).rankings }
     {

@@ -78,6 +78,7 @@ impl Market {
     }
 
     /// Makes the market that of a form, before the first record.
+    #[tactic(auto, using(crate::proofs::Entering::no_record))]
     pub(crate) fn start(&mut self, form: Form)
         requires { (form.sizes.agents ≤ 200) × (form.sizes.places ≤ 40) }
         ensures { held self.new ≡ unfilled form }
@@ -94,6 +95,7 @@ impl Market {
     }
 
     /// Enters a record: a line of a kind with these words.
+    #[tactic(auto, using(crate::proofs::Entering::one_record))]
     pub(crate) fn enter(&mut self, kind: Kind, words: Words<'_>)
         requires few { length (numbers_of words) ≤ 201 }
         requires nodes { length (held self.old).nodes < 700 }

@@ -31,6 +31,7 @@ impl OwnersReply {
 
     /// Reads a market file, and answers with its first fault, or with `ok`, its numbers of agents and places, and who
     /// owns each place while everybody waits.
+    #[tactic(auto, using(crate::proofs::Judging::owners_judged))]
     pub fn answer(&mut self, market: &[u8])
         ensures text { owners_replied self.new ≡ owners_verdict market.now }
         ensures market { last_market self.new ≡ left (market_read market.now) (last_market self.old) }

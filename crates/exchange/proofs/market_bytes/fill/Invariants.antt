@@ -1,8 +1,8 @@
-use Rattle.std.proofs.Common.{◌-◌, ◌≤◌, length}
+use Rattle.std.proofs.Common.{◌≤◌, length}
 use Rattle.exchange.proofs.market_bytes.fill.Given as goal
 
-abbrev pub invariant-loop-filled : goal.invariant-loop-filled
-invariant-loop-filled l = l.filled ≤ length l.initial.room
+abbrev pub invariant-loop-file : goal.invariant-loop-file
+invariant-loop-file l = length l.free ≤ l.most
 
-abbrev pub decreases-loop-filled : goal.decreases-loop-filled
-decreases-loop-filled l = length l.initial.room - l.filled
+abbrev pub decreases-loop-file : goal.decreases-loop-file
+decreases-loop-file l = length l.free

@@ -1,4 +1,4 @@
-use Rattle.std.proofs.Common.{◌≡◌, ℕ, ◌∷◌, [], ◌++◌, map, length, drop, Bor, List, refl, sym, ap, ◌∙◌, arith}
+use Rattle.std.proofs.Common.{ℕ, ◌∷◌, [], map, length, drop, Bor, List, sym, ap, ◌∙◌, arith}
 use Rattle.std.proofs.lemmas.List.{map-append, length_push}
 use Rattle.std.proofs.lemmas.Iterator.Consumers.{YieldsList-turn, YieldsList-end}
 use Rattle.spelling.specs.Lines.{lines}
@@ -6,7 +6,7 @@ use Rattle.spelling.specs.Views.{numbers_of}
 use Rattle.market_lines.specs.declared.kind.Kind.{Kind}
 use Rattle.market_file.specs.Contents.{kinds_of}
 use Rattle.market_file.specs.Files.{numbers_at}
-use Rattle.market_reader.specs.Filling.{entries_of, entered, after}
+use Rattle.market_reader.specs.Filling.{entered, after}
 use Rattle.market_reader.specs.Held.{held}
 use Rattle.market_reader.proofs.Entering.{after_last, entered_nodes, entered_tenants, entry_in, pair_at, pairs_of, entries_of_pairs, few_at}
 use Rattle.market_reader.proofs.reader.enter_all.Goals as goal
