@@ -8,6 +8,7 @@ use market_lines::fault::Layer;
 use market_lines::report::{Fault, Source, faulty_line};
 
 /// The letter of the file that has a fault.
+// Kept, as is the name of a layer below: bytes for `Page`, where a `Display` would need `write!`.
 fn source_letter(source: Source) -> u8
     ensures { result ≡ source_letter source }
 {

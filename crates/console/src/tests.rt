@@ -251,6 +251,7 @@ fn sizes(rt: HostRuntime) -> Result<(), Fail> {
     let mut file = Vec::new(rt.alloc());
     file.extend_from_slice(b"M 1 1\n")?;
     file.resize(65_535, b'\n')?;
+    assert!(rt; file.len() == 65_535);
     expect(&rt, &mut reply, file.as_slice(), b"E m word 1 2 0\n\n");
     file.push(b'\n')?;
     expect(&rt, &mut reply, file.as_slice(), b"E m market 8 0 0\n\n");

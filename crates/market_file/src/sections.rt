@@ -56,6 +56,7 @@ fn check_line(ledger: &mut Ledger, due: Due, number: usize, text: &[u8]) -> Resu
 }
 
 /// Checks the lines after the first two, by a ledger of what they name.
+// Kept: the bounds on sizes are clauses, since a `Sizes` may be any two numbers: the makers of rules refuse larger ones.
 pub(crate) fn check_sections(
     ledger: &mut Ledger,
     sizes: Sizes,

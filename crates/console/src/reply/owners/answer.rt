@@ -9,13 +9,11 @@ ghost use Rattle.console.specs.Verdicts.{TellsOwners};
 
 use super::OwnersReply;
 use crate::reply::Reply;
+use market::sizes::MOST_AGENTS;
 use market_lines::report::{Fault, Source};
 use market_reader::reader::read_market;
 use market_reader::record::Market;
 use std::alloc::{AllocError, Global};
-
-/// The most agents of a market.
-const MOST_AGENTS: usize = 200;
 
 impl OwnersReply {
     /// Makes the room. This alone can fail, and only for want of memory.
@@ -25,7 +23,7 @@ impl OwnersReply {
     {
         let reply = Reply::with_room(heap)?;
         let market = Market::with_room(heap)?;
-        let row = Vec::with_capacity(heap, MOST_AGENTS)?;
+        let row = Vec::with_capacity(heap, usize::from(MOST_AGENTS))?;
         Ok(OwnersReply { reply, market, row })
     }
 
