@@ -7,6 +7,7 @@ use crate::place::Place;
 
 /// A node of a place's tree. A root has parent 0 and took number 0; any other node has the number of its parent, and is
 /// the child that inherits where the parent's heir departed with the place of the took number, or with nothing for 0.
+// Kept: 0 for no parent and for nothing are numbers of the format, and are compared as such.
 #[derive(Clone, Copy)]
 pub struct Node {
     pub place: Place,

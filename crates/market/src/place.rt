@@ -2,6 +2,7 @@
 ghost use Rattle.std.specs.Prelude.{◌≡◌};
 
 /// A place, by its number: the places of a market are numbered from 1.
+// Kept: a type of its own beside `Agent`, so that neither is taken for the other.
 #[derive(Clone, Copy, Debug, PartialEq, Eq)]
 pub struct Place {
     pub number: u16,

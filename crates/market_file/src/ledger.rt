@@ -7,6 +7,7 @@ use naming::fault::Name;
 mod taking;
 
 /// What the lines of a file have named so far; the numbers of the line at hand stand beside it.
+// Kept: lists that are searched, since a map would allocate once the room is made.
 #[derive(Drop)]
 pub struct Ledger {
     names: Vec<Name>,

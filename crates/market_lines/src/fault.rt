@@ -81,6 +81,7 @@ impl LineFault {
         }
     }
 
+    // Kept: a case with a field has no discriminant, so a match gives each number.
     /// The number of the fault.
     fn cause(self) -> u8
         ensures { result ≡ line_cause self }
@@ -92,6 +93,7 @@ impl LineFault {
         }
     }
 
+    // Kept: 0 is what is printed where no word is named.
     /// The word that the fault names, from 1; 0 where it names none.
     fn word(self) -> usize
         ensures { result ≡ line_word self }
@@ -147,6 +149,7 @@ impl MarketFault {
         }
     }
 
+    // Kept, here and below: 0 is what is printed where nothing is named.
     /// The line that the fault names, from 1; 0 where it names none.
     pub fn line(self) -> usize
         ensures { result ≡ fault_line self }

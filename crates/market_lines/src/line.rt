@@ -10,6 +10,7 @@ use spelling::fault::WordFault;
 use spelling::words::Words;
 
 /// A line: the stretch of the file that it stands in, and its words.
+// Kept: one case for each kind is a rule of the project, so that a match on a line has to name all kinds.
 #[derive(Clone, Copy)]
 pub enum Line<'a> {
     Market(&'a [u8], Words<'a>),

@@ -23,6 +23,7 @@ impl WordFault {
         }
     }
 
+    // Kept: 0 is what is printed where no word is named.
     /// The word that the fault names, from 1; 0 where it names none.
     pub fn word(self) -> usize
         ensures { result ≡ word_at self }

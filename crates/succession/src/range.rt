@@ -12,6 +12,7 @@ pub fn agent_fits(agents: u16, agent: Agent) -> bool
     (1..=agents).contains(&agent.number)
 }
 
+// Kept: a second function for the second type, since a trait for one line is no plainer.
 /// Whether a place is one of the places 1 to `places`.
 pub fn place_fits(places: u16, place: Place) -> bool
     ensures { result ≡ place_fits places place }

@@ -12,6 +12,7 @@ use market::place::Place;
 use market::sizes::Sizes;
 use market::standing::Standing;
 
+// Kept: nodes name their parents by number in one list, as the file does, since boxes would allocate.
 /// How many nodes a tree has at most.
 const MOST_NODES: usize = 300;
 
@@ -40,6 +41,7 @@ pub fn is_tree(sizes: Sizes, nodes: &[Node]) -> bool
 }
 
 /// The number of what an agent departed with, 0 for nothing, or none where it waits.
+// Kept: 0 for nothing is the took number that a node has for it.
 fn taken_by(row: &[Standing], agent: Agent) -> Option<u16>
     ensures { result ≡ taken_by (standing row.now agent) }
 {
