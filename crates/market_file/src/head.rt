@@ -15,7 +15,7 @@ use market_lines::kind::Kind;
 use spelling::words::Words;
 
 /// The sizes that the words of an M line say.
-// Kept: both types are other crates', so this cannot be a `From`.
+// Kept: a `From` needs a type of this crate, and a newtype for it is no plainer.
 pub(crate) fn sizes_in(mut words: Words<'_>) -> Sizes
     ensures { result ≡ sizes_in (numbers_of words.entry) }
 {

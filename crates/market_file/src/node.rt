@@ -9,7 +9,7 @@ use market::place::Place;
 use spelling::words::Words;
 
 /// The node that the words of an H line say.
-// Kept: both types are other crates', so this cannot be a `From`.
+// Kept: a `From` needs a type of this crate, and a newtype for it is no plainer.
 pub fn node_in(mut words: Words<'_>) -> Node
     ensures { result ≡ node_in (numbers_of words.entry) }
 {
