@@ -88,6 +88,8 @@ impl<T: Numbered> Lists<T> {
 }
 
 /// Puts a value at a number, where there is such an entry.
+// Kept: over a slice, without the clause on the room, the goal `returns` did not close, since `get_mut` of a slice does
+// not say what it lends back.
 pub(crate) fn put_at(list: &mut Vec<u16>, number: u16, value: u16)
     ensures items { list.new.items ≡ set_at list.old.items number value }
     ensures capacity { vec_capacity list.new ≡ vec_capacity list.old }
