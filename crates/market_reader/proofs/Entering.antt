@@ -24,7 +24,7 @@ use Rattle.market_reader.specs.declared.record.Served.TheVariants.{ByQueue, ByPr
 use Rattle.market_reader.specs.Filling.{Entry, entries_of, of_kind, order_in, tenant_in, orders_after, with_queue, with_order, with_orders, with_nodes, with_tenants, entered, after}
 use Rattle.market_reader.specs.Held.{Held, Orders, queue, priorities, orders_by}
 use Rattle.market_reader.specs.Tables.{set_at, about}
-use Rattle.market_reader.proofs.Tabling.{take_set_at, room_fewer}
+use Rattle.market_reader.proofs.Tabling.{take_set_at}
 
 -- A P line changes the order of its place, where there are priorities.
 pub order_entered : (s : Served) (q : List Agent) (m : ℕ) (t u : List (List Agent)) (ns : List ℕ) → u ≡ set_at t (about ns) (order_in ns) → orders_by s q (take m u) ≡ with_order (orders_by s q (take m t)) ns
@@ -130,4 +130,4 @@ few_at (k ∷ ks) (l ∷ ls) (suc i) p q few within e = few_at ks ls i p q few.1
 -- What a market holds before the first record, and after one more.
 pub ruleset no_record = (alike, no_orders_at_first, take-replicate)
 
-pub ruleset one_record = (room_fewer, take_set_at, order_entered)
+pub ruleset one_record = (take_set_at, order_entered)

@@ -55,11 +55,6 @@ room_at k capacity [] (suc i) y e r = absurd cc
 room_at k capacity (x ∷ t) (suc zero) y e r = let same : y ≡ x = cc in rw same (leb-true k (capacity x) (and_parts (leb k (capacity x)) (room_for k (map capacity t)) r).0)
 room_at k capacity (x ∷ t) (suc (suc i)) y e r = room_at k capacity t (suc i) y e (and_parts (leb k (capacity x)) (room_for k (map capacity t)) r).1
 
--- Room for more is room for fewer.
-pub room_fewer : (n k : ℕ) (cs : List ℕ) → k ≤ n → room_for n cs ≡ true → room_for k cs ≡ true
-room_fewer n k [] h r = refl
-room_fewer n k (c ∷ cs) h r = grind (arith, common_steps, room_fewer n k cs h)
-
 -- The first of what is read from the elements of a list.
 pub ruleset first_read = (take-map)
 

@@ -49,8 +49,8 @@ held k = record {
   agents = k.sizes.agents;
   places = k.sizes.places;
   capacities = vec_items k.capacities;
-  orders = orders_by k.served (vec_items k.queue) (take k.sizes.places (map vec_items (vec_items k.priorities)));
+  orders = orders_by k.served (vec_items k.queue) (take k.sizes.places k.priorities);
   nodes = vec_items k.nodes;
   tenants = vec_items k.tenants;
-  rankings = take k.sizes.agents (map vec_items (vec_items k.rankings));
+  rankings = take k.sizes.agents k.rankings;
 }

@@ -1,7 +1,7 @@
 // The market that a file says, in room for the largest market.
-ghost use Rattle.std.specs.Prelude.{◌≡◌, ◌≤◌, true, map, vec_len, vec_capacity};
-ghost use Rattle.market_reader.specs.Rooms.{room_for};
+ghost use Rattle.std.specs.Prelude.{◌≡◌, ◌≤◌, length, vec_capacity};
 
+use crate::lists::Lists;
 use market::agent::Agent;
 use market::node::Node;
 use market::place::Place;
@@ -19,7 +19,6 @@ pub enum OrdersRef<'a> {
 }
 
 /// Which orders of agents a market has.
-// Kept: room for a queue and for priorities is made beforehand, so a market holds both and says which counts.
 #[derive(Clone, Copy)]
 pub(crate) enum Served {
     /// One order for all places.
@@ -33,21 +32,20 @@ pub(crate) enum Served {
 #[derive(Drop)]
 pub struct Market {
     sizes: Sizes,
+    // Kept: both lists are room that is made before the first byte is read, so the choice is a flag beside them.
     served: Served,
     capacities: Vec<u16>,
     queue: Vec<Agent>,
-    priorities: Vec<Vec<Agent>>,
+    priorities: Lists<Agent>,
     nodes: Vec<Node>,
     tenants: Vec<Tenant>,
-    rankings: Vec<Vec<Place>>,
+    rankings: Lists<Place>,
     ghost agents_few: { sizes.agents ≤ 200 },
     ghost places_few: { sizes.places ≤ 40 },
     ghost capacities_room: { 40 ≤ vec_capacity capacities },
     ghost queue_room: { 201 ≤ vec_capacity queue },
-    ghost places_room: { vec_len priorities ≡ 40 },
-    ghost orders_room: { room_for 201 (map vec_capacity priorities.items) ≡ true },
+    ghost places_room: { length priorities ≡ 40 },
     ghost nodes_room: { 700 ≤ vec_capacity nodes },
     ghost tenants_room: { 700 ≤ vec_capacity tenants },
-    ghost agents_room: { vec_len rankings ≡ 200 },
-    ghost rankings_room: { room_for 201 (map vec_capacity rankings.items) ≡ true },
+    ghost agents_room: { length rankings ≡ 200 },
 }

@@ -25,14 +25,13 @@ impl Market {
     }
 
     /// The queue, or the priorities by place.
-    #[tactic(auto, using(crate::proofs::Tabling::first_read))]
     pub fn orders(&self) -> OrdersRef<'_>
         ensures { orders_seen result ≡ (held self.now).orders }
     {
         let places = usize::from(self.sizes.places);
         match self.served {
             Served::ByQueue => OrdersRef::Queue(self.queue.as_slice()),
-            Served::ByPriorities => OrdersRef::Priorities(&self.priorities[..places]),
+            Served::ByPriorities => OrdersRef::Priorities(self.priorities.first(places)),
         }
     }
 
@@ -51,11 +50,10 @@ impl Market {
     }
 
     /// The rankings, by agent; empty for an agent without an R line.
-    #[tactic(auto, using(crate::proofs::Tabling::first_read))]
     pub fn rankings(&self) -> &[Vec<Place>]
         ensures { map vec_items result.now ≡ (held self.now).rankings }
     {
         let agents = usize::from(self.sizes.agents);
-        &self.rankings[..agents]
+        self.rankings.first(agents)
     }
 }

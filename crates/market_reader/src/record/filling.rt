@@ -5,30 +5,20 @@ ghost use Rattle.market_reader.specs.Filling.{tenant_in, unfilled, entered};
 ghost use Rattle.market_reader.specs.Held.{held, nothing, served_by};
 
 use super::{Market, Served};
-use crate::lists::{clear_all, gather_at, put_at, rooms};
+use crate::lists::{Lists, put_at};
 use market::agent::Agent;
 use market::place::Place;
-use market::sizes::Sizes;
+use market::sizes::{MOST_AGENTS, MOST_PLACES, Sizes};
 use market::tenant::Tenant;
-use market_file::form::Form;
+use market_file::form::{Form, MOST_LINES, MOST_WORDS};
 use market_file::node::node_in;
 use market_file::numbered::gather;
 use market_lines::kind::Kind;
 use spelling::words::Words;
 use std::alloc::{AllocError, Global};
 
-/// The most agents and the most places of a market.
-const MOST_AGENTS: usize = 200;
-
-const MOST_PLACES: usize = 40;
-
-/// More than the lines that the sections of a file can have.
-const MOST_LINES: usize = 700;
-
-/// The most words of a line: a place and 200 agents.
-const MOST_WORDS: usize = 201;
-
 /// The tenant that the words of a T line say.
+// Kept: both types are other crates', so this cannot be a `From`.
 fn tenant_in(words: Words<'_>) -> Tenant
     ensures { result ≡ tenant_in (numbers_of words.entry) }
 {
@@ -57,12 +47,12 @@ impl Market {
     pub fn with_room(heap: Global) -> Result<Market, AllocError>
         ensures { IfOk result (λ market. held market ≡ nothing) }
     {
-        let capacities = Vec::with_capacity(heap, MOST_PLACES)?;
+        let capacities = Vec::with_capacity(heap, usize::from(MOST_PLACES))?;
         let queue = Vec::with_capacity(heap, MOST_WORDS)?;
-        let priorities = rooms(heap, MOST_PLACES, MOST_WORDS)?;
+        let priorities = Lists::with_room(heap, usize::from(MOST_PLACES))?;
         let nodes = Vec::with_capacity(heap, MOST_LINES)?;
         let tenants = Vec::with_capacity(heap, MOST_LINES)?;
-        let rankings = rooms(heap, MOST_AGENTS, MOST_WORDS)?;
+        let rankings = Lists::with_room(heap, usize::from(MOST_AGENTS))?;
         let sizes = Sizes::default();
         let served = Served::ByQueue;
         Ok(Market {
@@ -88,10 +78,10 @@ impl Market {
         self.capacities.clear();
         let _ = self.capacities.resize(usize::from(form.sizes.places), 0);
         self.queue.clear();
-        clear_all(&mut self.priorities);
+        self.priorities.clear();
         self.nodes.clear();
         self.tenants.clear();
-        clear_all(&mut self.rankings);
+        self.rankings.clear();
     }
 
     /// Enters a record: a line of a kind with these words.
@@ -108,10 +98,10 @@ impl Market {
             Kind::Market | Kind::Contents => {}
             Kind::Seats => put_at(&mut self.capacities, about, rest.take_next()),
             Kind::Queue => gather(&mut self.queue, words),
-            Kind::Priorities => gather_at(&mut self.priorities, about, rest),
+            Kind::Priorities => self.priorities.gather_at(about, rest),
             Kind::Heir => self.nodes.push_reserved(node_in(words)),
             Kind::Tenant => self.tenants.push_reserved(tenant_in(words)),
-            Kind::Ranking => gather_at(&mut self.rankings, about, rest),
+            Kind::Ranking => self.rankings.gather_at(about, rest),
         }
     }
 }

@@ -1,5 +1,5 @@
 use Rattle.std.proofs.Common.{◌≡◌, [], ◌++◌, map, drop, replicate, vec_items, vec_capacity}
-use Rattle.market_reader.proofs.lists.clear_all.Given as goal
+use Rattle.market_reader.proofs.lists.Lists.clear.Given as goal
 
 -- The lists so far are empty, the others as they were, and all have the room that they had.
 abbrev pub invariant-loop-list : goal.invariant-loop-list
