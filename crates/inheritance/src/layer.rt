@@ -47,7 +47,8 @@ impl<'a, R: Rule, C: Claim> Rule for Layer<'a, R, C> {
     }
 
     fn owner(&self, row: &[Standing], place: Place) -> Agent {
-        // Kept: a closure for `unwrap_or_else` needs a clause and a proof of its own, so it is no plainer.
+        // Kept: tried with `unwrap_or_else`, which proves only once the closure has a clause and an answer of its own; the
+        // match needs neither.
         match C::claimant(self.entries, row, place) {
             Some(claimant) => claimant,
             None => self.below.owner(row, place),

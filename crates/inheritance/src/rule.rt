@@ -24,8 +24,8 @@ pub trait Rule {
         ensures agents { result.agents ≡ (terms self.now).agents }
         ensures places { result.places ≡ (terms self.now).places };
 
-    // Kept: row and place are two parameters here and below, since one row is asked about each place in turn, and a
-    // struct of both would be made anew for each.
+    // Kept: row and place are two parameters, here and where claims and questions take them, since one row is asked about
+    // each place in turn, and a struct of both would be made anew for each.
     /// The owner of a place in a row, unchecked: for a caller that knows that the question is proper, as one that asks
     /// many questions about one row.
     fn owner(&self, row: &[Standing], place: Place) -> Agent

@@ -5,6 +5,9 @@ ghost use Rattle.market.specs.Nodes.{branch_of, is_node, parent_fits};
 use crate::agent::Agent;
 use crate::place::Place;
 
+/// The most nodes that the trees of a market have together.
+pub const MOST_NODES: u16 = 300;
+
 /// A node of a place's tree. A root has parent 0 and took number 0; any other node has the number of its parent, and is
 /// the child that inherits where the parent's heir departed with the place of the took number, or with nothing for 0.
 // Kept: 0 for no parent and for nothing are numbers of the format, and are compared as such.
@@ -34,6 +37,13 @@ impl Node {
             parent: self.parent,
             took: self.took,
         }
+    }
+
+    /// Whether the node has the place, the parent and the took number. The parent may be any number.
+    pub fn is_child(&self, place: Place, parent: usize, took: u16) -> bool
+        ensures { result ≡ is_node place.number parent took self.now }
+    {
+        self.place == place && usize::from(self.parent) == parent && self.took == took
     }
 
     /// Whether the node stands there.

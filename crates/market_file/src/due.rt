@@ -8,7 +8,8 @@ ghost use Rattle.market_file.specs.Bounds.{least_words, most_words, lowest, high
 ghost use Rattle.market_file.specs.Files.{placed};
 ghost use Rattle.market_file.specs.FormedLines.{ranged, fitting, line_formed, LineByForm};
 
-use market::sizes::{MOST_AGENTS, MOST_PLACES, Sizes};
+use market::node::MOST_NODES;
+use market::sizes::{MOST_AGENTS, MOST_PLACES, MOST_SEATS, Sizes};
 use market_lines::fault::{At, LineFault};
 use market_lines::kind::Kind;
 use market_lines::line::Line;
@@ -54,12 +55,12 @@ impl Due {
             (Kind::Market, _) => 1..=MOST_PLACES,
             (Kind::Contents, _) => 0..=65_535,
             (Kind::Seats, 1) => 1..=places,
-            (Kind::Seats, _) => 1..=200,
+            (Kind::Seats, _) => 1..=MOST_SEATS,
             (Kind::Queue, _) => 1..=agents,
             (Kind::Priorities, 1) => 1..=places,
             (Kind::Priorities, _) => 1..=agents,
             (Kind::Heir, 1) => 1..=places,
-            (Kind::Heir, 2) => 0..=300,
+            (Kind::Heir, 2) => 0..=MOST_NODES,
             (Kind::Heir, 3) => 0..=places,
             (Kind::Heir, _) => 1..=agents,
             (Kind::Tenant, 1) => 1..=places,

@@ -9,6 +9,7 @@ ghost use Rattle.market_file.specs.Files.{sizes_read, contents_read};
 use crate::due::Due;
 use crate::form::Contents;
 use crate::sections::broken;
+use market::node::MOST_NODES;
 use market::sizes::Sizes;
 use market_lines::fault::{MarketFault, Spot};
 use market_lines::kind::Kind;
@@ -61,7 +62,7 @@ pub(crate) fn wrong_count(sizes: Sizes, contents: Contents) -> Option<usize>
         contents.seats == sizes.places,
         contents.queues <= 1,
         contents.priorities == priorities_due,
-        contents.heirs <= 300,
+        contents.heirs <= MOST_NODES,
         contents.tenants <= sizes.places,
         contents.rankings <= sizes.agents,
     ])?;

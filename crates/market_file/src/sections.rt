@@ -56,7 +56,8 @@ fn check_line(ledger: &mut Ledger, due: Due, number: usize, text: &[u8]) -> Resu
 }
 
 /// Checks the lines after the first two, by a ledger of what they name.
-// Kept: the bounds on sizes are clauses, since a `Sizes` may be any two numbers: the makers of rules refuse larger ones.
+// Kept: a second type of sizes, for bounds that three functions name, is no plainer; a `Sizes` may be any two numbers,
+// since the makers of rules refuse larger ones.
 pub(crate) fn check_sections(
     ledger: &mut Ledger,
     sizes: Sizes,

@@ -25,6 +25,7 @@ pub struct At {
 }
 
 /// A line, from 1, and a word of it, from 1; word 0 where no word is meant.
+// Kept: 0 for no word is what is printed.
 #[derive(Clone, Copy, Debug, PartialEq, Eq)]
 pub struct Spot {
     pub line: usize,
@@ -135,7 +136,7 @@ impl MarketFault {
     }
 
     /// The line and the word that the fault names, if it names a line.
-    fn spot(self) -> Option<Spot>
+    pub(crate) fn spot(self) -> Option<Spot>
         ensures { result ≡ spot_of self }
     {
         match self {

@@ -27,5 +27,7 @@ pub fn faulty_line<'a>(market: &'a [u8], session: &'a [u8], fault: &Fault) -> &'
         Source::Market => market,
         Source::Session => session,
     };
-    line_at(file, fault.fault.line()).unwrap_or_default()
+    let spot = fault.fault.spot();
+    spot.and_then(|spot| line_at(file, spot.line))
+        .unwrap_or_default()
 }

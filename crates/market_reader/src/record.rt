@@ -34,6 +34,7 @@ pub struct Market {
     sizes: Sizes,
     // Kept: both lists are room that is made before the first byte is read, so the choice is a flag beside them.
     served: Served,
+    // Kept: room for the largest market is made once, so these lists are longer than the sizes say.
     capacities: Vec<u16>,
     queue: Vec<Agent>,
     priorities: Lists<Agent>,

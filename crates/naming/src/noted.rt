@@ -21,6 +21,7 @@ pub struct Noted<'a> {
 }
 
 /// The number at an index, or 0 past the end.
+// Kept: 0 is what the definitions take for a number that is missing.
 fn number_at(numbers: &[u16], index: usize) -> u16
     ensures { result ≡ slice_index numbers.now index }
 {
@@ -59,11 +60,11 @@ fn check_rest(numbers: &[u16]) -> Result<(), NameFault>
     }
 }
 
-/// Whether a line of the kind has named the number.
-fn named_before(names: &[Name], kind: Kind, number: u16) -> bool
-    ensures { result ≡ named_before names.now kind number }
+/// Whether an earlier line has this name.
+fn named_before(names: &[Name], name: Name) -> bool
+    ensures { result ≡ named_before names.now name.kind name.number }
 {
-    names.iter().any(|name| *name == Name { kind, number })
+    names.iter().any(|earlier| *earlier == name)
 }
 
 /// Whether a node stands there.
@@ -77,7 +78,8 @@ fn node_before(nodes: &[Node], branch: Branch) -> bool
 fn check_name(names: &[Name], kind: Kind, numbers: &[u16]) -> Result<(), NameFault>
     ensures { result_err result ≡ first_fault names.now kind numbers.now None }
 {
-    if named_before(names, kind, number_at(numbers, 0)) {
+    let number = number_at(numbers, 0);
+    if named_before(names, Name { kind, number }) {
         return Err(NameFault::Twice(1));
     }
     Ok(())

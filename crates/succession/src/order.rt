@@ -48,6 +48,7 @@ fn lowest_waiting(agents: u16, row: &[Standing]) -> Option<Agent>
         .find(|agent| is_waiting(row, *agent))
 }
 
+// Kept: an owner is owed for every row, and by its definition that is the agent 0 where nobody waits.
 /// The owner by an order: the first agent that waits in it. Where none does, which in an order of all agents says that
 /// nobody waits, the lowest agent that waits, and else the number 0: so the answer is defined, and lawful, for every list.
 pub fn owner_by(agents: u16, order: &[Agent], row: &[Standing]) -> Agent

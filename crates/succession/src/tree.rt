@@ -7,14 +7,10 @@ use crate::data::{Entry, all_right};
 use crate::range::{agent_fits, place_fits};
 use crate::row::standing_of;
 use market::agent::Agent;
-use market::node::Node;
+use market::node::{MOST_NODES, Node};
 use market::place::Place;
 use market::sizes::Sizes;
 use market::standing::Standing;
-
-// Kept: nodes name their parents by number in one list, as the file does, since boxes would allocate.
-/// How many nodes a tree has at most.
-const MOST_NODES: usize = 300;
 
 impl Entry for Node {
     ghost alike = { same_node };
@@ -37,7 +33,7 @@ impl Entry for Node {
 pub fn is_tree(sizes: Sizes, nodes: &[Node]) -> bool
     ensures { result ≡ is_tree sizes.agents sizes.places nodes.now }
 {
-    nodes.len() <= MOST_NODES && all_right(sizes, nodes)
+    nodes.len() <= usize::from(MOST_NODES) && all_right(sizes, nodes)
 }
 
 /// The number of what an agent departed with, 0 for nothing, or none where it waits.
@@ -58,17 +54,14 @@ fn child_of(nodes: &[Node], place: Place, number: usize, took: u16) -> Option<us
     ensures value { result ≡ node_from number place.number number took (drop number nodes.now) }
     ensures within { IfSome result (λ i. (number ≤ i) × (i < length nodes.now)) }
 {
-    // Kept: the fields, not a `Branch`, since a number may be above what a `Branch` holds. Tried: the proof that no node
-    // has such a parent did not close.
     nodes
         .get(number..)?
         .iter()
-        .position(|node| {
-            node.place == place && usize::from(node.parent) == number && node.took == took
-        })
+        .position(|node| node.is_child(place, number, took))
         .map(|passed| number + passed)
 }
 
+// Kept: nodes name their parents by number in one list, as the file does, since boxes would allocate.
 /// The heir that the walk from the root of a place comes to and that waits.
 pub fn waiting_heir(nodes: &[Node], row: &[Standing], place: Place) -> Option<Agent>
     ensures { result ≡ heir_claims nodes.now row.now place }

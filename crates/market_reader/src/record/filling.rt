@@ -18,11 +18,10 @@ use spelling::words::Words;
 use std::alloc::{AllocError, Global};
 
 /// The tenant that the words of a T line say.
-// Kept: both types are other crates', so this cannot be a `From`.
-fn tenant_in(words: Words<'_>) -> Tenant
+// Kept: a `From` needs a type of this crate, and a newtype for it is no plainer.
+fn tenant_in(mut words: Words<'_>) -> Tenant
     ensures { result ≡ tenant_in (numbers_of words.entry) }
 {
-    let mut words = words;
     let place = words.take_next();
     let agent = words.take_next();
     Tenant {
