@@ -23,23 +23,19 @@ pub(crate) fn sizes_in(mut words: Words<'_>) -> Sizes
     Sizes { agents, places }
 }
 
-/// The contents that the words of a C line say.
-pub(crate) fn contents_in(mut words: Words<'_>) -> Contents
-    ensures { result ≡ contents_in (numbers_of words.entry) }
-{
-    let seats = words.take_next();
-    let queues = words.take_next();
-    let priorities = words.take_next();
-    let heirs = words.take_next();
-    let tenants = words.take_next();
-    let rankings = words.take_next();
-    Contents {
-        seats,
-        queues,
-        priorities,
-        heirs,
-        tenants,
-        rankings,
+impl From<Words<'_>> for Contents {
+    ghost from_gives = { λ w c. c ≡ contents_in (numbers_of w) };
+
+    /// The contents that the words of a C line say.
+    fn from(mut words: Words<'_>) -> Contents {
+        Contents {
+            seats: words.take_next(),
+            queues: words.take_next(),
+            priorities: words.take_next(),
+            heirs: words.take_next(),
+            tenants: words.take_next(),
+            rankings: words.take_next(),
+        }
     }
 }
 
@@ -94,7 +90,7 @@ pub(crate) fn read_contents(sizes: Sizes, text: Option<&[u8]>) -> Result<Content
         sizes,
     };
     let line = due.read_numbered(2, text)?;
-    let contents = contents_in(line.words());
+    let contents = Contents::from(line.words());
     match wrong_count(sizes, contents) {
         Some(word) => Err(MarketFault::Contents(Spot { line: 2, word })),
         None => Ok(contents),
