@@ -45,6 +45,7 @@ pub(crate) fn clear_all<T: Drop>(lists: &mut Vec<Vec<T>>)
 }
 
 /// Lists that are empty, so many and each with so much room.
+// Kept: tried `(0..count).map(..).try_collect(heap)`; the proof that each list then has its room did not close.
 pub(crate) fn rooms<T: Drop>(
     heap: Global,
     count: usize,

@@ -29,6 +29,7 @@ const MOST_LINES: usize = 700;
 const MOST_WORDS: usize = 201;
 
 /// The tenant that the words of a T line say.
+// Kept: words and tenants are types of other crates, so no `From`.
 fn tenant_in(words: Words<'_>) -> Tenant
     ensures { result ≡ tenant_in (numbers_of words.entry) }
 {
@@ -95,6 +96,7 @@ impl Market {
     }
 
     /// Enters a record: a line of a kind with these words.
+    // Kept: no `Line`, which is read with a fault, and a file that was checked has none.
     #[tactic(auto, using(crate::proofs::Entering::one_record))]
     pub(crate) fn enter(&mut self, kind: Kind, words: Words<'_>)
         requires few { length (numbers_of words) ≤ 201 }
