@@ -44,6 +44,7 @@ impl<T> Lists<T> {
         T: Drop,
         ensures { IfOk result (λ made. made ≡ replicate count []) }
     {
+        // Kept: tried `(0..count).map(..).try_collect(heap)`; the proof that each list then has its room did not close.
         let mut lists = Vec::with_capacity(heap, count)?;
         for _ in 0..count {
             let list = Vec::with_capacity(heap, MOST_WORDS)?;

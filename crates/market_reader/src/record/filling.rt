@@ -84,6 +84,7 @@ impl Market {
     }
 
     /// Enters a record: a line of a kind with these words.
+    // Kept: kind and words, not a `Line`, which is read with a fault: a file that was checked has none.
     #[tactic(auto, using(crate::proofs::Entering::one_record))]
     pub(crate) fn enter(&mut self, kind: Kind, words: Words<'_>)
         requires few { length (numbers_of words) ≤ 201 }
