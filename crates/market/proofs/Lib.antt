@@ -1,2 +1,1 @@
 pub mod Pigeonhole
-pub mod Refilling
