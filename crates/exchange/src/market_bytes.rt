@@ -6,6 +6,7 @@ use std::io;
 use std::io::{ErrorKind, Read};
 
 /// One byte more than a market file may have, so that a longer file shows.
+// Kept: a number of its own, since the program stands on `console` alone and this is room, not a limit of the format.
 pub(crate) const MOST_READ: usize = 65_536;
 
 /// Reads until the room is full or the file ends, and says how many bytes were read.

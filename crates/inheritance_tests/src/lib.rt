@@ -1,4 +1,4 @@
-//! What rules answer in small markets.
+//! What each rule promises in its own words, and what rules answer in small markets.
 #![tactic(auto)]
 
 pub mod promises;
