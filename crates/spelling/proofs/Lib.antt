@@ -1,7 +1,7 @@
 pub mod Cutting
 pub mod Filing
+pub mod Numbers
 pub mod Readings
 pub mod Rejoining
 pub mod Sentences
 pub mod Spelling
-pub mod Trying

@@ -1,15 +1,13 @@
 -- One word: what `spelled` reads is what the grammar calls a word, and what `decimal` writes is one. Assumes nothing.
-use Rattle.std.proofs.Common.{◌≡◌, ℕ, ◌+◌, ◌-◌, ◌*◌, ◌^◌, ◌<◌, ◌≤◌, true, false, cond, not, ◌&&◌, eqb, ltb, leb, List, [], ◌∷◌, length, get_or, Some, None, decimal, Option, sym, refl, ap, ◌∙◌, subst, inl, inr, arith, rules}
+use Rattle.std.proofs.Common.{◌≡◌, ℕ, ◌^◌, ◌<◌, ◌≤◌, true, false, cond, not, ◌&&◌, eqb, ltb, leb, List, [], ◌∷◌, length, get_or, Some, None, decimal, Option, sym, refl, ap, ◌∙◌, subst, inl, inr, arith, rules}
 use Rattle.std.proofs.lemmas.Fmt.{digits_decimal, digits_value-decimal, length-decimal-le, decimal_nonempty, first_decimal}
 use Rattle.std.proofs.lemmas.Option.{cond_some}
 use Rattle.std.proofs.lemmas.Str.Parse.{IsNumeralModel, numerals_by_fold, tells_all_ascii_digits}
-use Rattle.std.proofs.lemmas.Bool.{and_parts, and_from, eq-eqb, ne_eqb, cases_Bool, le-leb, leb-true, leb-false, lt-leb, ltb-true, ltb-false, lt-ltb, le-ltb, cases_lt, not-true, not_from_false, and_left, and_right}
-use Rattle.std.specs.Char.{is_ascii_digit}
+use Rattle.std.proofs.lemmas.Bool.{and_parts, and_from, eq-eqb, ne_eqb, le-leb, leb-true, ltb-true, ltb-false, lt-ltb, le-ltb, cases_lt, not-true, not_from_false, and_left, and_right}
 use Rattle.std.specs.List.{AllByRecursion}
 use Rattle.std.specs.Str.{all_ascii_digits}
 use Rattle.spelling.specs.Grammar.{Digit, Word, WordExactly}
-use Rattle.spelling.specs.Words.{read_on, with_digit, shaped, spells, spelled}
-use Rattle.spelling.proofs.Trying.{carried}
+use Rattle.spelling.specs.Words.{read_on, shaped, spells, spelled}
 
 -- Our words for digits and their number.
 own : IsNumeralModel (λ ds. all_ascii_digits ds ≡ true) (read_on 0)
@@ -68,32 +66,6 @@ spelled_from_word w n h =
 
 pub word_exactly : (w : List ℕ) (r : Option ℕ) → r ≡ spelled w → WordExactly w r
 word_exactly w r e = record { sound = λ n h. word_from_spelled w n (sym e ∙ h); complete = λ n h. e ∙ spelled_from_word w n h }
-
--- Digits only make a number greater.
-read_grows : (n : ℕ) (bs : List ℕ) → n ≤ read_on n bs
-read_grows n [] = omega arith
-read_grows n (c ∷ cs) = omega (arith, read_grows (10 * n + (c - 48)) cs)
-
--- Digits taken one after another are all digits, and write at most 65,535.
-carried_digits : (n : ℕ) (bs : List ℕ) → n ≤ 65535 → carried with_digit n bs ≡ cond (all_ascii_digits bs && leb (read_on n bs) 65535) (Some (read_on n bs)) None
-carried_digits n [] h = sym (ap (λ t. cond t (Some n) None) (le-leb n 65535 h))
-carried_digits n (c ∷ cs) h =
-    let m = 10 * n + (c - 48) in
-    elim (cases_Bool (is_ascii_digit c)) [
-      | inr other ↦ rw other refl
-      | inl digit ↦
-          elim (cases_Bool (leb m 65535)) [
-            | inl small ↦ rw (digit, small) (carried_digits m cs (leb-true m 65535 small))
-            | inr big ↦
-                let more : leb (read_on m cs) 65535 ≡ false = lt-leb (read_on m cs) 65535 (omega (arith, read_grows m cs, leb-false m 65535 big)) in
-                rw (digit, big, more, and_right (all_ascii_digits cs) false refl) refl
-          ]
-    ]
-
-pub spelled_by_digits : (w : List ℕ) → 0 < length w → length w ≤ 5 → (get_or w 0 0 ≡ 48 → length w < 2) → carried with_digit 0 w ≡ spelled w
-spelled_by_digits w some few lead =
-    let shape : shaped w ≡ true = and_from _ _ (and_from _ _ (lt-ltb 0 _ some) (le-leb _ 5 few)) (not_from_false _ (led w (λ e. omega (arith, lead e, some)))) in
-    carried_digits 0 w (omega arith) ∙ ap (λ t. cond (t && all_ascii_digits w && leb (read_on 0 w) 65535) (Some (read_on 0 w)) None) (sym shape)
 
 -- What `decimal` writes is a word.
 pub word_decimal : (n : ℕ) → n ≤ 65535 → Word (decimal n) n

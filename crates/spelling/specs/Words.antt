@@ -1,6 +1,5 @@
 -- What a word's bytes spell, and the words of a text.
 use Rattle.std.specs.Prelude.{ℕ, ◌+◌, ◌-◌, ◌*◌, Bool, cond, not, ◌&&◌, List, [], ◌∷◌, map, length, Some, None, Option, ◌==◌, nat_le, nat_lt, slice_index}
-use Rattle.std.specs.Char.{is_ascii_digit}
 use Rattle.std.specs.List.{position_from}
 use Rattle.std.specs.Option.{is_none, some_prefix}
 use Rattle.std.specs.Str.{all_ascii_digits}
@@ -11,9 +10,9 @@ abbrev pub read_on : ℕ → List ℕ → ℕ
 read_on n [] = n
 read_on n (c ∷ cs) = read_on (10 * n + (c - 48)) cs
 
--- The number with one more decimal digit, where the byte is one and the number is still at most 65,535.
-abbrev pub with_digit : ℕ → ℕ → Option ℕ
-with_digit n c = cond (is_ascii_digit c && nat_le (10 * n + (c - 48)) 65535) (Some (10 * n + (c - 48))) None
+-- The number that decimal digits write after the number n; none where a byte is no digit.
+abbrev pub digits_after : ℕ → List ℕ → Option ℕ
+digits_after n bs = cond (all_ascii_digits bs) (Some (read_on n bs)) None
 
 -- The text has 1 to 5 bytes, and begins with the digit 0 only if that is all of it.
 abbrev pub shaped : List ℕ → Bool
