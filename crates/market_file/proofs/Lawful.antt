@@ -171,10 +171,10 @@ pub same_lines : (file other : List ℕ) → closed other ≡ closed file → li
 same_lines file other e = let r = rejoins other in (rejoins file).only (lines other) r.apart (r.whole ∙ e)
 
 -- A file of a good size is read by its lines.
-sized_from : (bs : List ℕ) → Sized bs → sized bs ≡ true
+pub sized_from : (bs : List ℕ) → Sized bs → sized bs ≡ true
 sized_from bs s = and_from (ltb 0 (length bs)) (leb (length bs) 65535) (lt-ltb 0 (length bs) (omega arith)) (le-leb (length bs) 65535 s.1)
 
-file_lines : (bs : List ℕ) → Sized bs → file_form bs ≡ form_read (lines bs)
+pub file_lines : (bs : List ℕ) → Sized bs → file_form bs ≡ form_read (lines bs)
 file_lines bs s = ap (λ t. cond t (form_read (lines bs)) (Err fault.Size)) (sized_from bs s)
 
 pub form_law : (file : List ℕ) (r : Result Form MarketFault) → r ≡ file_form file → FormLaw file r

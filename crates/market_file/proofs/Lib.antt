@@ -1,3 +1,4 @@
+pub mod Dues
 pub mod Filing
 pub mod Forming
 pub mod Lawful

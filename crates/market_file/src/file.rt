@@ -12,6 +12,7 @@ use market_lines::fault::MarketFault;
 use spelling::lines::Lines;
 
 /// The most bytes that a file may have.
+// Kept: `exchange` has a number of its own for its room, one byte more, since it stands on `console` alone.
 const MOST_BYTES: usize = 65_535;
 
 /// The form of a file, or the first of its faults, by a ledger that is blank.

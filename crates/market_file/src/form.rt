@@ -1,5 +1,5 @@
 // What the first two lines of a file say: the sizes of the market, and the contents.
-ghost use Rattle.std.specs.Prelude.{◌≡◌};
+ghost use Rattle.std.specs.Prelude.{◌≡◌, ◌+◌, ◌<◌, MatchBool};
 ghost use Rattle.std.specs.List.{slice_get};
 ghost use Rattle.market_file.specs.Contents.{kinds_of, kinds_left};
 
@@ -31,6 +31,19 @@ pub struct Form {
     pub contents: Contents,
 }
 
+/// Whether a line lies past a section of so many lines; then its number is that from the end of the section on.
+fn is_past(left: &mut usize, count: u16) -> bool
+    ensures { MatchBool result (left.old ≡ count + left.new) ((left.old < count) × (left.new ≡ left.old)) }
+{
+    match left.checked_sub(usize::from(count)) {
+        Some(beyond) => {
+            *left = beyond;
+            true
+        }
+        None => false,
+    }
+}
+
 impl Contents {
     /// The kinds of the lines of the sections, in file order.
     pub fn kinds(&self) -> Kinds
@@ -40,9 +53,25 @@ impl Contents {
     }
 
     /// The kind of line that is due after so many lines of the sections, where one is.
+    #[tactic(auto, using(crate::proofs::Dues::inside, crate::proofs::Dues::past))]
     pub fn due(&self, after: usize) -> Option<Kind>
         ensures { result ≡ slice_get (kinds_of self.now) after }
     {
-        self.kinds().nth(after)
+        let mut left = after;
+        if !is_past(&mut left, self.seats) {
+            Some(Kind::Seats)
+        } else if !is_past(&mut left, self.queues) {
+            Some(Kind::Queue)
+        } else if !is_past(&mut left, self.priorities) {
+            Some(Kind::Priorities)
+        } else if !is_past(&mut left, self.heirs) {
+            Some(Kind::Heir)
+        } else if !is_past(&mut left, self.tenants) {
+            Some(Kind::Tenant)
+        } else if !is_past(&mut left, self.rankings) {
+            Some(Kind::Ranking)
+        } else {
+            None
+        }
     }
 }
