@@ -1,14 +1,16 @@
 -- The first agent of a list that waits: what it means, and the laws of an owner. Assumes nothing.
-use Rattle.std.proofs.Common.{◌≡◌, ℕ, ◌+◌, ◌-◌, ◌<◌, ◌≤◌, true, false, cond, List, [], ◌∷◌, ◌++◌, length, get_or, Some, None, Option, unwrap_or, sym, refl, ap, ◌∙◌, subst, inl, inr, arith}
+use Rattle.std.proofs.Common.{◌≡◌, ℕ, zero, suc, ◌+◌, ◌-◌, ◌≤◌, true, false, cond, List, [], ◌∷◌, ◌++◌, length, take, drop, Some, None, Option, unwrap_or, sym, refl, ap, ◌∙◌, subst, inl, inr, arith}
 use Rattle.std.proofs.lemmas.Bool.{cases_Bool}
 use Rattle.std.proofs.ByRecursion.{All-get_or}
 use Rattle.std.proofs.lemmas.List.FromFn.{length-map-range_with_len, get_or-map-range_with_len}
 use Rattle.std.proofs.lemmas.List.Folds.{find-append}
-use Rattle.std.proofs.lemmas.List.Recursion.{found_at, found_nowhere}
-use Rattle.std.specs.Option.{option_or, MatchOption, IfSome, IsSomeAnd}
-use Rattle.std.specs.List.{AllByRecursion}
+use Rattle.std.proofs.lemmas.Iterator.Adapters.{position_from-zero}
+use Rattle.std.specs.Option.{option_map, option_or}
+use Rattle.std.specs.List.{AllByRecursion, position, position_from}
 use Rattle.market.specs.declared.agent.Agent.{Agent}
-use Rattle.market.specs.Rows.{Row, Waits, is_waiting, waits, Continues}
+use Rattle.market.specs.declared.standing.Standing.{Standing}
+use Rattle.market.specs.declared.standing.Standing.TheVariants.{Unplaced}
+use Rattle.market.specs.Rows.{Row, standing, Waits, is_waiting, waits, Continues}
 use Rattle.succession.specs.Orders.{first_waiting, FirstWaiting, agents_from, nobody, owner_by}
 use Rattle.succession.proofs.Standings.{unplaced≢waiting, waits_true, waits_false, waits_in, kept_false}
 
@@ -26,32 +28,52 @@ first_later A a rest e = ap (λ t. cond t (Some a) (first_waiting A rest)) e
 abbrev pub numbered : ℕ → Agent
 numbered k = record { number = k }
 
--- The lowest agent that waits, as a search finds it: the items that it took are the agents 1, 2, .., and all of them if none passed.
-module _ (A : Row) (n len : ℕ) (at : ℕ → Option Agent) (some : len ≤ n) (agents : (k : ℕ) → k < len → at k ≡ Some (numbered (1 + k))) where
-  abbrev pub LowestFound : Option Agent → Type 0
-  LowestFound r =
-      MatchOption r ((len ≡ n) × ((k : ℕ) → IfSome (at k) (λ a. waits A a ≡ false)))
-      (λ a. (i : ℕ) × (len ≡ i + 1) × (at i ≡ Some a) × (waits A a ≡ true) × ((k : ℕ) → k < i → IsSomeAnd (at k) (λ b. waits A b ≡ false)))
+-- The standing of the next agent of a row, and past its end.
+row_next : (A : Row) (k : ℕ) (s : Standing) (rest : Row) → drop k A ≡ s ∷ rest → (standing A (numbered (suc k)) ≡ s) × (drop (suc k) A ≡ rest)
+row_next [] zero s rest e = let z : ◌≡◌ {A = ℕ} 0 1 = cc in absurd (omega arith)
+row_next [] (suc k) s rest e = let z : ◌≡◌ {A = ℕ} 0 1 = cc in absurd (omega arith)
+row_next (x ∷ A) zero s rest e = let first : x ≡ s = cc in let more : A ≡ rest = cc in (first, more)
+row_next (x ∷ A) (suc k) s rest e = row_next A k s rest e
 
-  long : length (agents_from 1 n) ≡ n
-  long = length-map-range_with_len numbered 1 n
+row_end : (A : Row) (k : ℕ) → drop k A ≡ [] → (standing A (numbered (suc k)) ≡ Unplaced) × (drop (suc k) A ≡ [])
+row_end [] zero e = (refl, refl)
+row_end [] (suc k) e = (refl, refl)
+row_end (x ∷ A) zero e = let z : ◌≡◌ {A = ℕ} 0 1 = cc in absurd (omega arith)
+row_end (x ∷ A) (suc k) e = row_end A k e
 
-  read : (k : ℕ) → k < n → get_or (agents_from 1 n) k nobody ≡ numbered (1 + k)
-  read k h = get_or-map-range_with_len numbered 1 n k (1 + k) nobody h refl
+take_nil : (n : ℕ) → ◌≡◌ {A = Row} (take n []) []
+take_nil zero = refl
+take_nil (suc n) = refl
 
-  pub lowest_found : (r : Option Agent) → LowestFound r → r ≡ first_waiting A (agents_from 1 n)
-  lowest_found None f =
-      sym (found_nowhere (first_waiting A) (waits A) Some None refl (λ _ _. refl) (agents_from 1 n) nobody (λ k h.
-      ap (waits A) (read k (omega (arith, long))) ∙ subst (λ o. IfSome o (λ a. waits A a ≡ false)) (agents k (omega (arith, long, f.0))) (f.1 k)))
-  lowest_found (Some a) f =
-      let taken = agents f.0 (omega (arith, f.1)) in
-      let there = f.2 in
-      let here = read f.0 (omega (arith, f.1)) in
-      let is : get_or (agents_from 1 n) f.0 nobody ≡ a = cc in
-      ap Some (sym is)
-      ∙ sym (found_at (first_waiting A) (waits A) Some None refl (λ _ _. refl) (agents_from 1 n) f.0 nobody (omega (arith, long, f.1))
-      (λ k h. ap (waits A) (read k (omega (arith, f.1))) ∙ subst (λ o. IsSomeAnd o (λ b. waits A b ≡ false)) (agents k (omega (arith, f.1))) (f.4 k h))
-      (ap (waits A) is ∙ f.3))
+-- The lowest agent that waits stands at the first index of the row at which somebody waits.
+lowest_from : (A : Row) (n k : ℕ) (rest : Row) → drop k A ≡ rest →
+    first_waiting A (agents_from (suc k) n) ≡ option_map (λ i. numbered (suc i)) (position_from is_waiting k (take n rest))
+lowest_from A zero k rest e = refl
+lowest_from A (suc n) k [] e =
+    let here = row_end A k e in
+    let one : suc k + 1 ≡ suc (suc k) = omega arith in
+    first_later A (numbered (suc k)) (agents_from (suc k + 1) n) (ap is_waiting here.0)
+    ∙ ap (λ j. first_waiting A (agents_from j n)) one
+    ∙ lowest_from A n (suc k) [] here.1
+    ∙ ap (λ l. option_map (λ i. numbered (suc i)) (position_from is_waiting (suc k) l)) (take_nil n)
+lowest_from A (suc n) k (s ∷ rest) e =
+    let here = row_next A k s rest e in
+    let one : suc k + 1 ≡ suc (suc k) = omega arith in
+    let next : suc k ≡ k + 1 = omega arith in
+    elim (cases_Bool (is_waiting s)) [
+      | inl h ↦
+          first_here A (numbered (suc k)) (agents_from (suc k + 1) n) (ap is_waiting here.0 ∙ h)
+          ∙ sym (ap (λ t. option_map (λ i. numbered (suc i)) (cond t (Some k) (position_from is_waiting (k + 1) (take n rest)))) h)
+      | inr h ↦
+          first_later A (numbered (suc k)) (agents_from (suc k + 1) n) (ap is_waiting here.0 ∙ h)
+          ∙ ap (λ j. first_waiting A (agents_from j n)) one
+          ∙ lowest_from A n (suc k) rest here.1
+          ∙ ap (λ j. option_map (λ i. numbered (suc i)) (position_from is_waiting j (take n rest))) next
+          ∙ sym (ap (λ t. option_map (λ i. numbered (suc i)) (cond t (Some k) (position_from is_waiting (k + 1) (take n rest)))) h)
+    ]
+
+pub lowest_at : (A : Row) (n : ℕ) → first_waiting A (agents_from 1 n) ≡ option_map (λ i. numbered (suc i)) (position is_waiting (take n A))
+lowest_at A n = lowest_from A n 0 A refl ∙ ap (option_map (λ i. numbered (suc i))) (sym (position_from-zero is_waiting (take n A)))
 
 pub first_none : (A : Row) (order : List Agent) → first_waiting A order ≡ None → AllByRecursion (λ b. Waits A b → ⊥) order
 first_none A [] e = tt

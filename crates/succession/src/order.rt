@@ -1,12 +1,14 @@
 // Orders of agents: when a list is one, and who is the first in it that waits.
-ghost use Rattle.std.specs.Prelude.{◌≡◌};
+ghost use Rattle.std.specs.Prelude.{◌≡◌, ◌<◌, ◌≤◌, take, length, IfSome};
+ghost use Rattle.std.specs.List.{position};
 ghost use Rattle.std.specs.Option.{unwrap_or};
+ghost use Rattle.market.specs.Rows.{is_waiting};
 ghost use Rattle.succession.specs.Orders.{same_agent, is_order, first_waiting, agents_from, nobody, owner_by};
 ghost use Rattle.succession.specs.Ranges.{agent_fits};
 
 use crate::data::{Entry, all_right};
 use crate::range::agent_fits;
-use crate::row::is_waiting;
+use crate::row::{is_waiting, waiting};
 use market::agent::Agent;
 use market::sizes::Sizes;
 use market::standing::Standing;
@@ -39,13 +41,29 @@ fn first_waiting(order: &[Agent], row: &[Standing]) -> Option<Agent>
     order.iter().copied().find(|agent| is_waiting(row, *agent))
 }
 
+/// The index of the first standing of a row that is of an agent that waits.
+fn first_index(row: &[Standing]) -> Option<usize>
+    ensures value { result ≡ position is_waiting row.now }
+    ensures within { IfSome result (λ i. i < length row.now) }
+{
+    row.iter().position(|standing| waiting(*standing))
+}
+
+/// The standings of the agents up to a number.
+fn standings_to(agents: u16, row: &[Standing]) -> &[Standing]
+    ensures value { result.now ≡ take agents row.now }
+    ensures few { length result.now ≤ agents }
+{
+    row.get(..usize::from(agents)).unwrap_or(row)
+}
+
 /// The lowest of all agents that waits.
+#[tactic(auto, using(crate::proofs::Firsts::lowest_at))]
 fn lowest_waiting(agents: u16, row: &[Standing]) -> Option<Agent>
     ensures { result ≡ first_waiting row.now (agents_from 1 agents) }
 {
-    (1..=agents)
-        .map(Agent::from)
-        .find(|agent| is_waiting(row, *agent))
+    let index = first_index(standings_to(agents, row))?;
+    Some(Agent::from(index as u16 + 1))
 }
 
 // Kept: an owner is owed for every row, and by its definition that is the agent 0 where nobody waits.
