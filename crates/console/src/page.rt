@@ -18,13 +18,12 @@ pub(crate) struct Page {
 
 impl Model for Page {
     ghost use Rattle.std.specs.Prelude.{ℕ, ◌≤◌, List, vec_capacity};
-    ghost use Rattle.console.specs.declared.page.TheConstants.{ROOM};
 
     ghost Value = { List ℕ };
 
     ghost view = { λ page. page.bytes.items };
 
-    ghost invariant = { λ page. ROOM ≤ vec_capacity page.bytes };
+    ghost invariant = { λ page. 65700 ≤ vec_capacity page.bytes };
 }
 
 // Kept: bytes are put by methods that cannot fail. Of `write!` a clause says what was written at `Ok` alone, and none
