@@ -7,4 +7,4 @@ pub count-requires-clause-fits : goal.count-requires-clause-fits
 count-requires-clause-fits c = inl (omega (arith, few_numbers c.args.self.now.rest.now))
 
 pub returns : goal.returns
-returns c = count_from_yields_List c.args.self.now _ c.count.ensures.ran (numbers_road c.args.self.now)
+returns c = omega (arith, count_from_yields_List c.args.self.now _ c.count.ensures.ran (numbers_road c.args.self.now))
