@@ -3,14 +3,14 @@ use Rattle.std.proofs.Common.{◌≡◌, ℕ, Bool, true, ◌&&◌, leb, Ok, ref
 use Rattle.std.proofs.lemmas.Bool.{and_parts, and_from, leb-true, le-leb}
 use Rattle.inheritance.specs.Making.{SizesRight, sizes_fit, MadeExactly, OrderedRight}
 
-sizes_right : (n m : ℕ) → sizes_fit n m ≡ true → SizesRight n m
+pub sizes_right : (n m : ℕ) → sizes_fit n m ≡ true → SizesRight n m
 sizes_right n m e =
     let q = and_parts (leb 1 n && leb n 200) (leb 1 m && leb m 40) e in
     let a = and_parts (leb 1 n) (leb n 200) q.0 in
     let b = and_parts (leb 1 m) (leb m 40) q.1 in
     record { some_agents = leb-true 1 n a.0; most_agents = leb-true n 200 a.1; some_places = leb-true 1 m b.0; most_places = leb-true m 40 b.1 }
 
-sizes_fit_true : (n m : ℕ) → SizesRight n m → sizes_fit n m ≡ true
+pub sizes_fit_true : (n m : ℕ) → SizesRight n m → sizes_fit n m ≡ true
 sizes_fit_true n m s =
     and_from _ _ (and_from _ _ (le-leb 1 n s.some_agents) (le-leb n 200 s.most_agents)) (and_from _ _ (le-leb 1 m s.some_places) (le-leb m 40 s.most_places))
 

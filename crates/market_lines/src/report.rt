@@ -29,5 +29,5 @@ pub fn faulty_line<'a>(market: &'a [u8], session: &'a [u8], fault: &Fault) -> &'
     };
     let spot = fault.fault.spot();
     spot.and_then(|spot| line_at(file, spot.line))
-        .unwrap_or_default()
+        .unwrap_or(&file[..0])
 }

@@ -21,7 +21,7 @@ use Rattle.piles.specs.Piles.{orders_fit, OrdersFit, orders_terms, OrdersOwn, or
 -- ---- what a maker answers
 
 -- A rule that was made had right data.
-made_ok : {X : Type 0} (b : Bool) (x d : X) → Ok x ≡ made_if b d → (b ≡ true) × (x ≡ d)
+pub made_ok : {X : Type 0} (b : Bool) (x d : X) → Ok x ≡ made_if b d → (b ≡ true) × (x ≡ d)
 made_ok true x d e = (refl, cc)
 made_ok false x d e = let z : ◌≡◌ {A = ℕ} 0 1 = cc in absurd (omega arith)
 
@@ -76,10 +76,10 @@ order_places : (n m : ℕ) (o : Orders) → (orders_terms n m o).places ≡ m
 order_places n m (queue q) = refl
 order_places n m (priorities t) = refl
 
-pile_agents : (h : Held) → (order_terms h).agents ≡ h.agents
+pub pile_agents : (h : Held) → (order_terms h).agents ≡ h.agents
 pile_agents h = order_agents h.agents h.places h.orders
 
-pile_places : (h : Held) → (order_terms h).places ≡ h.places
+pub pile_places : (h : Held) → (order_terms h).places ≡ h.places
 pile_places h = order_places h.agents h.places h.orders
 
 pile_owns : (h : Held) → RulesRight h → PileOwns h
