@@ -15,7 +15,7 @@ pub enter-requires-clause-few : goal.enter-requires-clause-few
 enter-requires-clause-few c =
     let ks = kinds_of c.args.contents in
     let file = c.args.file.now in
-    let pairs = pairs_of c.into_iter-kind-iterator.result ks file (cc) (cc) (cc) in
+    let pairs = pairs_of c.into_iter-kind-iterator.result ks file (grind arith) (cc) (cc) in
     let turn = YieldsList-turn pairs c.loop-kind.yielded c.loop-kind.kind-iterator c.loop-kind.yielded_by c.next.result c.next.new.self (c.in-Some.kind, c.in-Some.text) c.in-Some.is c.next.ensures.steps in
     omega (arith, few_at ks (drop 2 (lines file)) (length c.loop-kind.yielded) _ _ c.requires.few turn.0 turn.1, ap length c.after_letter.ensures)
 
@@ -42,7 +42,7 @@ pub returns : goal.returns
 returns c =
     let ks = kinds_of c.args.contents in
     let file = c.args.file.now in
-    let pairs = pairs_of c.into_iter-kind-iterator.result ks file (cc) (cc) (cc) in
+    let pairs = pairs_of c.into_iter-kind-iterator.result ks file (grind arith) (cc) (cc) in
     let end = YieldsList-end pairs c.loop-kind.yielded c.loop-kind.kind-iterator c.loop-kind.yielded_by c.next.result c.next.new.self c.in-None.is c.next.ensures.steps in
     c.loop-kind.invariant.0
     ∙ ap (λ ps. after (held c.args.market.now) (map entry_in ps)) end.0
