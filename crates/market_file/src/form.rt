@@ -31,7 +31,7 @@ pub struct Form {
     pub contents: Contents,
 }
 
-/// Whether a line lies past a section of so many lines; then its number is that from the end of the section on.
+/// Whether so many lines are left that a whole section of lines is passed; if so, they are left without it.
 fn is_past(left: &mut usize, count: u16) -> bool
     ensures { MatchBool result (left.old ≡ count + left.new) ((left.old < count) × (left.new ≡ left.old)) }
 {
@@ -53,6 +53,8 @@ impl Contents {
     }
 
     /// The kind of line that is due after so many lines of the sections, where one is.
+    // Kept: the sections stand in order here and in `Kinds::next`, both by `kinds_of`. `self.kinds().nth(after)` takes a
+    // step for each line before.
     #[tactic(auto, using(crate::proofs::Dues::inside, crate::proofs::Dues::past))]
     pub fn due(&self, after: usize) -> Option<Kind>
         ensures { result ≡ slice_get (kinds_of self.now) after }

@@ -41,11 +41,12 @@ row_end [] (suc k) e = (refl, refl)
 row_end (x ∷ A) zero e = let z : ◌≡◌ {A = ℕ} 0 1 = cc in absurd (omega arith)
 row_end (x ∷ A) (suc k) e = row_end A k e
 
+-- Of no standings none is taken.
 take_nil : (n : ℕ) → ◌≡◌ {A = Row} (take n []) []
 take_nil zero = refl
 take_nil (suc n) = refl
 
--- The lowest agent that waits stands at the first index of the row at which somebody waits.
+-- The lowest agent after the first k that waits, by what is left of the row after them.
 lowest_from : (A : Row) (n k : ℕ) (rest : Row) → drop k A ≡ rest →
     first_waiting A (agents_from (suc k) n) ≡ option_map (λ i. numbered (suc i)) (position_from is_waiting k (take n rest))
 lowest_from A zero k rest e = refl
@@ -72,6 +73,7 @@ lowest_from A (suc n) k (s ∷ rest) e =
           ∙ sym (ap (λ t. option_map (λ i. numbered (suc i)) (cond t (Some k) (position_from is_waiting (k + 1) (take n rest)))) h)
     ]
 
+-- The lowest agent that waits stands at the first index of the row at which somebody waits.
 pub lowest_at : (A : Row) (n : ℕ) → first_waiting A (agents_from 1 n) ≡ option_map (λ i. numbered (suc i)) (position is_waiting (take n A))
 lowest_at A n = lowest_from A n 0 A refl ∙ ap (option_map (λ i. numbered (suc i))) (sym (position_from-zero is_waiting (take n A)))
 
